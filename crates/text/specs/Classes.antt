@@ -1,0 +1,47 @@
+-- The classes of the 256 byte values, by which the code checks UTF-8 (document 01, "one class for each of the 256 byte
+-- values"). Two bytes have one class where they stand in the same ranges of Unicode's table (Unicode.antt).
+--   classes       the class of each byte value, in runs
+--   classOf b     the class of the byte b
+--   classesFrom   the classes of the bytes from a place on
+--   classRows     Unicode's rows, with the classes of each range in the place of its bytes
+-- The rule that ties a class to Unicode's ranges is `class-rule` of proofs/ClassLaws.antt. Assumes nothing.
+use Prim.Native.Nat.{ℕ}
+use mathlib.Core.List.{List, [], _∷_, _++_, map}
+use lib.ListN.{getD, drop, replicate}
+use Rattle.text.specs.Rows.{Range, _··_, Row}
+
+abbrev pub classes : List ℕ
+classes =
+    replicate 128 0 ++
+    replicate 16 1 ++
+    replicate 16 2 ++
+    replicate 32 3 ++
+    replicate 2 12 ++
+    replicate 30 4 ++
+    replicate 1 5 ++
+    replicate 12 6 ++
+    replicate 1 7 ++
+    replicate 2 8 ++
+    replicate 1 9 ++
+    replicate 3 10 ++
+    replicate 1 11 ++
+    replicate 11 12
+
+unfoldable pub classOf : ℕ → ℕ
+classOf b = getD classes b 0
+
+unfoldable pub classesFrom : List ℕ → ℕ → List ℕ
+classesFrom s at = map classOf (drop at s)
+
+abbrev pub classRows : List Row
+classRows =
+    (0 ·· 0 ∷ []) ∷
+    (4 ·· 4 ∷ 1 ·· 3 ∷ []) ∷
+    (5 ·· 5 ∷ 3 ·· 3 ∷ 1 ·· 3 ∷ []) ∷
+    (6 ·· 6 ∷ 1 ·· 3 ∷ 1 ·· 3 ∷ []) ∷
+    (7 ·· 7 ∷ 1 ·· 2 ∷ 1 ·· 3 ∷ []) ∷
+    (8 ·· 8 ∷ 1 ·· 3 ∷ 1 ·· 3 ∷ []) ∷
+    (9 ·· 9 ∷ 2 ·· 3 ∷ 1 ·· 3 ∷ 1 ·· 3 ∷ []) ∷
+    (10 ·· 10 ∷ 1 ·· 3 ∷ 1 ·· 3 ∷ 1 ·· 3 ∷ []) ∷
+    (11 ·· 11 ∷ 1 ·· 1 ∷ 1 ·· 3 ∷ 1 ·· 3 ∷ []) ∷
+    []

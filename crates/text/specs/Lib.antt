@@ -1,0 +1,4 @@
+pub mod Rows
+pub mod Unicode
+pub mod Classes
+pub mod Text
