@@ -11,7 +11,7 @@ use lib.Seq.{drop-cons, drop-drop}
 use lib.Arith.{lt-of-le-ne}
 use borrow.Author.Tests.{le-leb, lt-leb}
 use Rattle.number.specs.Number.{Bytes}
-use Rattle.number.proofs.Cases.{split, Away}
+use Rattle.number.proofs.ByCases.{split, Away}
 use Rattle.number.proofs.NumberLaws.{bytes-tail, bytes-drop}
 use Rattle.text.specs.Rows.{Range, _··_, Row, inside, opens, stepOf, onward, formed}
 use Rattle.text.specs.Unicode.{utf8Rows}

@@ -39,18 +39,18 @@ formed-skip rows (suc k) [] = refl
 formed-skip rows (suc k) (x ∷ s) = formed-skip rows k s
 
 -- after a sequence the rest decides
-formed-next : (rows : List Row) (s : List ℕ) (n : ℕ) → stepOf rows s ≡ suc n → formed rows 0 s ≡ formed rows 0 (drop (suc n) s)
+pub formed-next : (rows : List Row) (s : List ℕ) (n : ℕ) → stepOf rows s ≡ suc n → formed rows 0 s ≡ formed rows 0 (drop (suc n) s)
 unfolding formed
 formed-next rows [] n e = refl
 formed-next rows (x ∷ s) n e = ap (λ k. onward k (λ m. formed rows m s)) e ∙ formed-skip rows n s
 
 -- where no sequence stands, nothing is well formed
-formed-stuck : (rows : List Row) (s : List ℕ) → 1 ≤ length s → stepOf rows s ≡ 0 → formed rows 0 s ≡ false
+pub formed-stuck : (rows : List Row) (s : List ℕ) → 1 ≤ length s → stepOf rows s ≡ 0 → formed rows 0 s ≡ false
 unfolding formed
 formed-stuck rows [] h e = absurd (omega arith)
 formed-stuck rows (x ∷ s) h e = ap (λ k. onward k (λ m. formed rows m s)) e
 
-formed-nil : (rows : List Row) → formed rows 0 [] ≡ true
+pub formed-nil : (rows : List Row) → formed rows 0 [] ≡ true
 unfolding formed
 formed-nil rows = refl
 

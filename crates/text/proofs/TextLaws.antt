@@ -9,7 +9,7 @@ use lib.ListN.{length, take, drop, getD, length-drop, drop-of-length-le}
 use lib.Seq.{take-suc, drop-nil, drop-drop, length-take-le, getD-drop}
 use borrow.Author.Tests.{le-leb, lt-leb}
 use Rattle.number.specs.Number.{leOf, numberAt}
-use Rattle.number.proofs.Cases.{split}
+use Rattle.number.proofs.ByCases.{split}
 use Rattle.number.proofs.NumberLaws.{numberAt-past}
 use Rattle.text.specs.Rows.{_··_, inside, opens, stepOf}
 use Rattle.text.specs.Unicode.{wideRows}
