@@ -1,5 +1,5 @@
 pub mod Rows
-pub mod Sequences
 pub mod Unicode
 pub mod Classes
 pub mod Text
+pub mod Sequences
