@@ -8,7 +8,7 @@
 use Prim.Native.Nat.{ℕ}
 use mathlib.Core.List.{List, [], _∷_, _++_, map}
 use lib.ListN.{getD, drop, replicate}
-use Rattle.text.specs.Rows.{Range, _··_, Row}
+use Rattle.text.specs.Rows.{_··_, Row}
 
 abbrev pub classes : List ℕ
 classes =

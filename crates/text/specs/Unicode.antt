@@ -1,8 +1,7 @@
 -- Unicode's encoding forms, from the Unicode Standard, section 3.9: table 3-7, "Well-Formed UTF-8 Byte Sequences", and
 -- table 3-5, "UTF-16 Bit Distribution", whose surrogates are D800 to DBFF and then DC00 to DFFF. Assumes nothing.
-use Prim.Native.Nat.{ℕ}
 use mathlib.Core.List.{List, [], _∷_}
-use Rattle.text.specs.Rows.{Range, _··_, Row}
+use Rattle.text.specs.Rows.{_··_, Row}
 
 -- U+0000..U+007F, U+0080..U+07FF, U+0800..U+0FFF, U+1000..U+CFFF, U+D000..U+D7FF, U+E000..U+FFFF,
 -- U+10000..U+3FFFF, U+40000..U+FFFFF, U+100000..U+10FFFF

@@ -1,5 +1,5 @@
 -- `text::utf8::check`: the check, then the trimming. Assumes nothing.
-use mathlib.Core.Path.{sym, ap, _∙_}
+use mathlib.Core.Path.{ap}
 use borrow.Author.Needs.{needs}
 use Rattle.text.specs.Text.{utf8Of}
 use Rattle.text.specs.declared.Text.the-variants.{Length}

@@ -1,5 +1,5 @@
 -- `text::utf8::sequence`: at each class of a lead the rows of classes leave one row, and elsewhere none. Assumes nothing.
-use mathlib.Core.Path.{_≡_, sym, ap, _∙_}
+use mathlib.Core.Path.{sym, _∙_}
 use borrow.Author.Needs.{needs}
 use Rattle.number.proofs.NumberLaws.{bytes}
 use Rattle.text.proofs.ClassLaws.{step-lead, step-none}

@@ -1,6 +1,6 @@
 -- `text::utf8::trimmed`: the first n bytes trim as all do, and n falls by a zero a turn. Assumes nothing.
-use Prim.Native.Nat.{_-_, _≤_}
-use mathlib.Core.Path.{_≡_, refl, sym, ap, _∙_}
+use Prim.Native.Nat.{_≤_}
+use mathlib.Core.Path.{_≡_, sym, ap, _∙_}
 use native.Mathlib.Omega.{arith}
 use lib.Seq.{take-length}
 use lib.ListN.{length, take}

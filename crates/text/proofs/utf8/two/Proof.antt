@@ -1,10 +1,6 @@
 -- `text::utf8::two`: the row of classes, range by range. Assumes nothing.
-use Prim.Native.Nat.{_+_}
 use mathlib.Core.Path.{sym, _∙_}
-use mathlib.Core.List.{[], _∷_}
 use borrow.Author.Needs.{needs}
-use Rattle.text.specs.Rows.{_··_}
-use Rattle.text.proofs.ClassLaws.{opens-from}
 use Rattle.text.proofs.utf8.two.Statement.{statement}
 use Rattle.text.proofs.utf8.two.Tie as tie
 

@@ -1,6 +1,6 @@
 -- `text::utf8::well_formed`: what is left from `at` on is well formed exactly where all is; each turn passes a sequence.
 -- Assumes nothing.
-use Prim.Native.Nat.{_+_, _-_, _≤_}
+use Prim.Native.Nat.{_-_, _≤_}
 use mathlib.Core.Path.{_≡_, refl, sym, _∙_}
 use native.Mathlib.Omega.{arith}
 use lib.ListN.{length, drop}

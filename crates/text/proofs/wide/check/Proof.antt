@@ -1,6 +1,6 @@
 -- `text::wide::check`: the length, the check, then the trimming. Assumes nothing.
 use Prim.Native.Nat.{_%_}
-use mathlib.Core.Path.{sym, ap, _∙_}
+use mathlib.Core.Path.{ap}
 use lib.ListN.{length}
 use borrow.Author.Needs.{needs}
 use borrow.Author.Tests.{eq-eqb, ne-eqb}

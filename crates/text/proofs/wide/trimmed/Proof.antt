@@ -1,5 +1,5 @@
 -- `text::wide::trimmed`: the units in the first n bytes trim as all do, and n falls by a zero unit a turn. Assumes nothing.
-use Prim.Native.Nat.{_-_, _*_, _/_, _%_, _≤_}
+use Prim.Native.Nat.{_*_, _/_, _%_, _≤_}
 use mathlib.Core.Path.{_≡_, sym, ap, _∙_}
 use native.Mathlib.Omega.{arith}
 use lib.Seq.{take-length}
