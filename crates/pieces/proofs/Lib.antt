@@ -1,0 +1,5 @@
+pub mod VerdictLaws
+pub mod PlanLaws
+pub mod WalkLaws
+pub mod SlotLaws
+pub mod TakenLaws
