@@ -3,3 +3,4 @@ pub mod PlanLaws
 pub mod WalkLaws
 pub mod SlotLaws
 pub mod TakenLaws
+pub mod FeedLaws
