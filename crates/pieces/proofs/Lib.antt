@@ -4,3 +4,5 @@ pub mod WalkLaws
 pub mod SlotLaws
 pub mod TakenLaws
 pub mod FeedLaws
+pub mod RunLaws
+pub mod OneCall
