@@ -6,3 +6,5 @@ pub mod TakenLaws
 pub mod FeedLaws
 pub mod RunLaws
 pub mod OneCall
+pub mod Reached
+pub mod Agreement

@@ -113,7 +113,7 @@ module _ {Shape Rec : Type 0} (judge : Judge Shape Rec) (full most : ℕ) (wrong
         let (a, b) = walk-waits s base (partOf log base k) d in
         rw e (ap (λ l. rs ++ l) a ∙ append-nil rs, b)
 
-    rest-before : (s : Shape) (base k : ℕ) (rs : List Rec) → walkTo judge sh log (base + k) ≡ adds rs (walk judge s base (partOf log base k))
+    pub rest-before : (s : Shape) (base k : ℕ) (rs : List Rec) → walkTo judge sh log (base + k) ≡ adds rs (walk judge s base (partOf log base k))
         → decided (judge s base (partOf log base k)) ≡ false → Before rs (walkTo judge sh log (base + k))
     rest-before s base k rs e d = let (a, b) = rest-waits s base k rs e d in record { few = omega (arith, ap length a); early = b }
 
