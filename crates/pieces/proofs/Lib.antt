@@ -8,3 +8,4 @@ pub mod RunLaws
 pub mod OneCall
 pub mod Reached
 pub mod Agreement
+pub mod Promptness

@@ -134,6 +134,10 @@ module _ {Shape Rec : Type 0} (judge : Judge Shape Rec) (full most : ℕ) (wrong
         right = o .fine;
       }
 
+      -- the walk of the bytes taken so far has no further record, and its ending may change
+      pub open-told : (walkTo judge sh log (w .total) .records ≡ rs) × Early (walkTo judge sh log (w .total) .ending)
+      open-told = rw (o .place) (rest-waits (w .shape) base (w .held) rs (o .rest (w .held)) (o .waits))
+
     -- ---- a feed of p to an open walker, with ps to come, over a hold that agrees with the last on the held bytes
 
     module _ (base : ℕ) (rs : List Rec) (p : List ℕ) (ps : List (List ℕ)) (w : Walker Shape) (last hold : List ℕ)
