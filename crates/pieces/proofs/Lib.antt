@@ -9,3 +9,4 @@ pub mod OneCall
 pub mod Reached
 pub mod Agreement
 pub mod Promptness
+pub mod Toy
