@@ -5,7 +5,7 @@
 -- A log past the limit has no part in this: `wholeWalk-long` (proofs/WalkLaws.antt) and `feed-long` (proofs/FeedLaws.antt).
 -- Assumes nothing.
 use Prim.Native.Nat.{ℕ, zero, suc, _+_, _≤_}
-use mathlib.Core.Path.{_≡_, refl, sym, ap, _∙_}
+use mathlib.Core.Path.{_≡_, refl}
 use mathlib.Core.Bool.{Bool, true, false}
 use mathlib.Core.List.{List, [], _∷_, _++_, append-nil}
 use native.Mathlib.Omega.{arith}
@@ -14,7 +14,7 @@ use Rattle.number.proofs.Cases.{both}
 use Rattle.pieces.specs.Verdict.{more, sound, Judge, Steady}
 use Rattle.pieces.specs.Walk.{Ending, walk}
 use Rattle.pieces.specs.Feed.{Walker, Answer, gives, stops, wants, Outcome, fresh, feedOf, closeOf}
-use Rattle.pieces.specs.Run.{join, Call, fedCall, closeCall, after, stopped, told, Lent, Run, rests, feeds, closes}
+use Rattle.pieces.specs.Run.{join, Call, fedCall, closeCall, after, stopped, told, Run, rests, feeds, closes}
 use Rattle.pieces.proofs.FeedLaws.{feed-length, close-still}
 use Rattle.pieces.proofs.OneCall.{Open, Next, next-gives, next-wants, next-stops, feed-step, close-stops}
 use Rattle.pieces.proofs.Reached.{Reached, reached-open, reached-shut, fresh-open, after-calls}
@@ -100,8 +100,8 @@ module _ {Shape Rec : Type 0} (judge : Judge Shape Rec) (full most : ℕ) (wrong
     where
       go : (x : Outcome Shape Rec) → x .count ≤ length p → Next judge full most wrong sh log rs w p (after (x .answer) (x .count) p ps) x
           → ((base : ℕ) (rs : List Rec) → Open judge full most wrong sh log base rs (after (x .answer) (x .count) p ps) (x .walker) (x .hold)
-              → turns (after (x .answer) (x .count) p ps) ≤ f
-              → stopped (drive judge full most wrong f (x .walker) (x .hold) (after (x .answer) (x .count) p ps)) ≡ true)
+          → turns (after (x .answer) (x .count) p ps) ≤ f
+          → stopped (drive judge full most wrong f (x .walker) (x .hold) (after (x .answer) (x .count) p ps)) ≡ true)
           → stopped (fedCall p hold x ∷ onward (x .answer) (λ _. drive judge full most wrong f (x .walker) (x .hold) (after (x .answer) (x .count) p ps))) ≡ true
       go x n (next-gives r a o z some front) ih = rw a (rw a at (ih (x .walker .total) (rs ++ (r ∷ [])) o
           (rw a (omega (arith, length-append (drop (x .count) p) (join ps), length-drop (x .count) p, length-append p (join ps))))))

@@ -12,24 +12,24 @@ use mathlib.Core.Bool.{Bool, true, false}
 use mathlib.Core.Option.{none, some}
 use mathlib.Core.List.{List, [], _∷_, _++_, append-assoc, append-nil}
 use native.Mathlib.Omega.{arith}
-use native.Mathlib.Nat.{zero-add, add-zero}
+use native.Mathlib.Nat.{add-zero}
 use lib.ListN.{length, take, drop, length-append, length-drop, drop-of-length-le}
-use lib.Seq.{paste, take-paste, take-all, take-take, take-append-le, drop-append-le, drop-at, drop-drop, length-take-le}
+use lib.Seq.{paste, take-paste, take-all, take-take, take-append-le, drop-append-le, drop-at, drop-drop}
 use Rattle.number.specs.Range.{partOf}
 use Rattle.number.proofs.Cases.{split, both}
-use Rattle.number.proofs.RangeLaws.{length-part, part-add, part-rest}
+use Rattle.number.proofs.RangeLaws.{length-part, part-add}
 use Rattle.refusal.specs.declared.Why.the-variants.{FieldCut}
 use Rattle.refusal.specs.declared.Why.{Why}
 use Rattle.pieces.specs.Verdict.{Verdict, more, sound, bad, Judge, decided, Steady}
-use Rattle.pieces.specs.Walk.{Ending, ended, refused, closing, Told, only, add, walk}
+use Rattle.pieces.specs.Walk.{Ending, ended, refused, closing, Told, add, walk}
 use Rattle.pieces.specs.Taken.{taken, Least}
-use Rattle.pieces.specs.Feed.{Walker, Answer, gives, stops, wants, Outcome, fresh, start, still, fed, closed, feedOf, closeOf}
-use Rattle.pieces.specs.Run.{join, Call, fedCall, closeCall, after, outcomeOf, stopped, took, holding, told, Lent, Run, feeds, closes}
+use Rattle.pieces.specs.Feed.{Walker, gives, stops, wants, Outcome, start, fed, closed, feedOf, closeOf}
+use Rattle.pieces.specs.Run.{join, after, Lent}
 use Rattle.pieces.proofs.VerdictLaws.{sound-all, waits-within}
 use Rattle.pieces.proofs.WalkLaws.{walk-more, walk-sound, walk-bad}
 use Rattle.pieces.proofs.TakenLaws.{taken-least, waits-all, none-before, taken-within}
-use Rattle.pieces.proofs.FeedLaws.{InRange, feed-kept, feed-passed, close-kept, close-passed}
-use Rattle.pieces.proofs.RunLaws.{adds, pieceOf, lentTo, given, stopped-append, took-append, holding-append, told-append, told-stopped}
+use Rattle.pieces.proofs.FeedLaws.{InRange, feed-passed, close-passed}
+use Rattle.pieces.proofs.RunLaws.{adds}
 
 -- the end, or a field that is cut: more log may change these
 pub data Early : Ending → Type 0 where

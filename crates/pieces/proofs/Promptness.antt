@@ -6,8 +6,8 @@
 --   repeats    (f): after a stop every later call says the same again
 -- `Early` and `Before` are in proofs/OneCall.antt, `given`, `pieceOf` and `lentTo` in proofs/RunLaws.antt. Assumes nothing.
 use Prim.Native.Nat.{ℕ, _+_, _-_, _≤_, _<_}
-use mathlib.Core.Path.{_≡_, refl, sym, ap, _∙_}
-use mathlib.Core.Bool.{Bool, true, false}
+use mathlib.Core.Path.{_≡_, refl, ap, _∙_}
+use mathlib.Core.Bool.{Bool, false}
 use mathlib.Core.List.{List, [], _∷_, _++_}
 use native.Mathlib.Omega.{arith}
 use lib.ListN.{length, take}
@@ -17,7 +17,7 @@ use Rattle.refusal.specs.declared.Why.{Why}
 use Rattle.refusal.specs.declared.Why.the-variants.{FieldCut}
 use Rattle.pieces.specs.Verdict.{more, sound, Judge, Steady}
 use Rattle.pieces.specs.Walk.{Ending, refused}
-use Rattle.pieces.specs.Feed.{gives, stops, wants, fresh, still}
+use Rattle.pieces.specs.Feed.{gives, stops, wants, fresh}
 use Rattle.pieces.specs.Run.{join, Call, outcomeOf, stopped, took, holding, Run}
 use Rattle.pieces.proofs.VerdictLaws.{never}
 use Rattle.pieces.proofs.RunLaws.{pieceOf, lentTo, given}

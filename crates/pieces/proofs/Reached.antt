@@ -15,7 +15,7 @@ use Rattle.number.specs.Range.{partOf}
 use Rattle.pieces.specs.Verdict.{Judge, more, sound, Steady}
 use Rattle.pieces.specs.Walk.{Ending, ended, only, walk}
 use Rattle.pieces.specs.Feed.{Walker, Answer, gives, stops, wants, fresh, still}
-use Rattle.pieces.specs.Run.{join, Call, fedCall, closeCall, after, tells, record?, stop?, outcomeOf, stopped, took, holding, told, Run, feeds, closes}
+use Rattle.pieces.specs.Run.{join, Call, after, tells, record?, stop?, outcomeOf, stopped, took, holding, told, Run, feeds, closes}
 use Rattle.pieces.proofs.FeedLaws.{feed-kept, close-kept}
 use Rattle.pieces.proofs.RunLaws.{adds, pieceOf, lentTo, given, stopped-append, took-append, holding-append, told-append, told-stopped}
 use Rattle.pieces.proofs.OneCall.{walkTo, Open, Shut, Next, next-gives, next-wants, next-stops, Step, rest-before, feed-step, close-step}

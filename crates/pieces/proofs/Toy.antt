@@ -2,7 +2,7 @@
 -- those bytes; 255 is refused with 9 at the record's start. A record reaches 4 bytes, a log 12, and every shape is right.
 -- First the format, then the theorems at it, then worked cases by computation: logs, slots, made-up walkers, and a run of seven calls.
 -- Assumes nothing.
-use Prim.Native.Nat.{ℕ, _+_, _≤_}
+use Prim.Native.Nat.{ℕ, _+_, _≤_, _<_}
 use mathlib.Core.Path.{_≡_, refl}
 use mathlib.Core.Bool.{Bool, true, false}
 use mathlib.Core.Option.{none, some}
@@ -21,6 +21,7 @@ use Rattle.pieces.specs.Run.{join, Call, fedCall, closeCall, outcomeOf, 
 use Rattle.pieces.proofs.PlanLaws.{Gives, read-steady, read-within, read-gives}
 use Rattle.pieces.proofs.TakenLaws.{jump, jump-taken, stop, stop-taken}
 use Rattle.pieces.proofs.RunLaws.{lentTo}
+use Rattle.pieces.proofs.OneCall.{Before, walkTo}
 use Rattle.pieces.proofs.Agreement.{agreement, runs-exist}
 use Rattle.pieces.proofs.Promptness.{Prompt, prompt, repeats}
 
@@ -66,6 +67,16 @@ agrees ps last cs = agreement judge 4 12 wrong steady within right tt ps last cs
 pub is-prompt : (ps : List (List ℕ)) (last : List ℕ) (bs : List (Call (Unit {0}) Item)) (c : Call (Unit {0}) Item) (cs : List (Call (Unit {0}) Item))
     → length (join ps) ≤ 12 → Run judge 4 12 wrong ps (fresh tt) last (bs ++ (c ∷ cs)) → Prompt judge tt (join ps) bs c
 is-prompt ps last bs c cs = prompt judge 4 12 wrong steady within right tt ps last bs c cs refl
+
+pub says-again : (ps : List (List ℕ)) (last : List ℕ) (bs : List (Call (Unit {0}) Item)) (c : Call (Unit {0}) Item) (cs : List (Call (Unit {0}) Item))
+    (d : Call (Unit {0}) Item) (ds : List (Call (Unit {0}) Item)) (e : Ending) → length (join ps) ≤ 12
+    → Run judge 4 12 wrong ps (fresh tt) last (bs ++ (c ∷ (cs ++ (d ∷ ds)))) → outcomeOf c .answer ≡ stops e
+    → outcomeOf d ≡ still (outcomeOf c .walker) (lentTo d) e
+says-again ps last bs c cs d ds e = repeats judge 4 12 wrong steady within right tt ps last bs c cs d ds e refl
+
+pub has-runs : (ps : List (List ℕ)) (hold : List ℕ) → length (join ps) ≤ 12 → 4 ≤ length hold
+    → (cs : List (Call (Unit {0}) Item)) × Run judge 4 12 wrong ps (fresh tt) hold cs × (stopped cs ≡ true)
+has-runs ps hold = runs-exist judge 4 12 wrong steady within right tt ps hold refl
 
 pub jumps : (base : ℕ) (h p : List ℕ) → jump (judge tt base) h p ≡ taken (judge tt base) h p
 jumps base = jump-taken (judge tt base) (steady tt base)
@@ -140,6 +151,10 @@ close w hold = closeOf judge 4 12 wrong w hold
 abbrev walker : ℕ → ℕ → Walker (Unit {0})
 walker held total = record { shape = tt; held = held; total = total; kept = none }
 
+-- the same, and e is kept
+abbrev done : ℕ → ℕ → Ending → Walker (Unit {0})
+done held total e = record { shape = tt; held = held; total = total; kept = some e }
+
 -- three held bytes of which two are a record: the record, 0 taken, at a feed and at a close
 held-record : feed (walker 3 8) (1 ∷ 7 ∷ 5 ∷ 6 ∷ []) (9 ∷ [])
     ≡ record { answer = gives (record { at = 5; bytes = 7 ∷ [] }); count = 0; walker = walker 0 8; hold = 1 ∷ 7 ∷ 5 ∷ 6 ∷ [] }
@@ -157,15 +172,15 @@ unfolding feed
 too-long-first = refl
 
 -- a kept answer, whatever it is, before 13; and 14 before it, where the hold is a byte short
-kept : Walker (Unit {0})
-kept = record { shape = tt; held = 0; total = 12; kept = some (refused LogTooLong 3) }
+abbrev kept : Walker (Unit {0})
+kept = done 0 12 (refused LogTooLong 3)
 
 kept-before-too-long : feed kept (0 ∷ 0 ∷ 0 ∷ 0 ∷ []) (9 ∷ []) ≡ still kept (0 ∷ 0 ∷ 0 ∷ 0 ∷ []) (refused LogTooLong 3)
-unfolding feed kept
+unfolding feed
 kept-before-too-long = refl
 
 short-hold-first : feed kept (0 ∷ 0 ∷ 0 ∷ []) (9 ∷ []) ≡ still kept (0 ∷ 0 ∷ 0 ∷ []) (refused OutOfRange 0)
-unfolding feed kept
+unfolding feed
 short-hold-first = refl
 
 -- ---- a run of seven calls: an empty piece, other bytes in the rest of the hold at each call, and what is left of a piece fed again
@@ -173,30 +188,30 @@ short-hold-first = refl
 abbrev pieces : List (List ℕ)
 pieces = (1 ∷ []) ∷ [] ∷ (7 ∷ 2 ∷ []) ∷ (8 ∷ 9 ∷ []) ∷ []
 
-abbrev calls : List (Call (Unit {0}) Item)
-calls =
+abbrev first-two : List (Call (Unit {0}) Item)
+first-two =
     fedCall (1 ∷ []) (5 ∷ 5 ∷ 5 ∷ 5 ∷ []) (record { answer = wants; count = 1; walker = walker 1 1; hold = 1 ∷ 5 ∷ 5 ∷ 5 ∷ [] })
     ∷ fedCall [] (1 ∷ 6 ∷ 6 ∷ 6 ∷ []) (record { answer = wants; count = 0; walker = walker 1 1; hold = 1 ∷ 6 ∷ 6 ∷ 6 ∷ [] })
-    ∷ fedCall (7 ∷ 2 ∷ []) (1 ∷ 4 ∷ 4 ∷ 4 ∷ [])
-        (record { answer = gives (record { at = 0; bytes = 7 ∷ [] }); count = 1; walker = walker 0 2; hold = 1 ∷ 7 ∷ 4 ∷ 4 ∷ [] })
-    ∷ fedCall (2 ∷ []) (3 ∷ 3 ∷ 3 ∷ 3 ∷ []) (record { answer = wants; count = 1; walker = walker 1 3; hold = 2 ∷ 3 ∷ 3 ∷ 3 ∷ [] })
+    ∷ []
+
+abbrev third : Call (Unit {0}) Item
+third = fedCall (7 ∷ 2 ∷ []) (1 ∷ 4 ∷ 4 ∷ 4 ∷ [])
+    (record { answer = gives (record { at = 0; bytes = 7 ∷ [] }); count = 1; walker = walker 0 2; hold = 1 ∷ 7 ∷ 4 ∷ 4 ∷ [] })
+
+abbrev later : List (Call (Unit {0}) Item)
+later =
+    fedCall (2 ∷ []) (3 ∷ 3 ∷ 3 ∷ 3 ∷ []) (record { answer = wants; count = 1; walker = walker 1 3; hold = 2 ∷ 3 ∷ 3 ∷ 3 ∷ [] })
     ∷ fedCall (8 ∷ 9 ∷ []) (2 ∷ 0 ∷ 0 ∷ 0 ∷ [])
-        (record { answer = gives (record { at = 2; bytes = 8 ∷ 9 ∷ [] }); count = 2; walker = walker 0 5; hold = 2 ∷ 8 ∷ 9 ∷ 0 ∷ [] })
+    (record { answer = gives (record { at = 2; bytes = 8 ∷ 9 ∷ [] }); count = 2; walker = walker 0 5; hold = 2 ∷ 8 ∷ 9 ∷ 0 ∷ [] })
     ∷ fedCall [] (0 ∷ 0 ∷ 0 ∷ 0 ∷ []) (record { answer = wants; count = 0; walker = walker 0 5; hold = 0 ∷ 0 ∷ 0 ∷ 0 ∷ [] })
-    ∷ closeCall (1 ∷ 1 ∷ 1 ∷ 1 ∷ [])
-        (record {
-          answer = stops (ended 5 0);
-          count = 0;
-          walker = record { shape = tt; held = 0; total = 5; kept = some (ended 5 0) };
-          hold = 1 ∷ 1 ∷ 1 ∷ 1 ∷ [];
-        })
+    ∷ closeCall (1 ∷ 1 ∷ 1 ∷ 1 ∷ []) (record { answer = stops (ended 5 0); count = 0; walker = done 0 5 (ended 5 0); hold = 1 ∷ 1 ∷ 1 ∷ 1 ∷ [] })
     ∷ []
 
 -- four bytes are a hold of full size
 four : {held : ℕ} {last : List ℕ} {a b c d : ℕ} → take held (a ∷ b ∷ c ∷ d ∷ []) ≡ take held last → Lent 4 held last (a ∷ b ∷ c ∷ d ∷ [])
 four s = record { size = omega arith; same = s }
 
-seven-calls : Run judge 4 12 wrong pieces (fresh tt) [] calls
+seven-calls : Run judge 4 12 wrong pieces (fresh tt) [] (first-two ++ (third ∷ later))
 unfolding feedOf closeOf taken judge
 seven-calls =
     feeds (four refl) refl
@@ -207,6 +222,26 @@ seven-calls =
     (feeds (four refl) refl
     (closes (four refl) refl rests))))))
 
--- what they tell, by agreement and by computation
-seven-tell : (e : Ending) → told e calls ≡ walk judge tt 0 (1 ∷ 7 ∷ 2 ∷ 8 ∷ 9 ∷ [])
-seven-tell = agrees pieces [] calls (omega arith) seven-calls refl
+-- what they tell, by agreement
+seven-tell : (e : Ending) → told e (first-two ++ (third ∷ later)) ≡ walk judge tt 0 (1 ∷ 7 ∷ 2 ∷ 8 ∷ 9 ∷ [])
+seven-tell = agrees pieces [] (first-two ++ (third ∷ later)) (omega arith) seven-calls refl
+
+-- the third call gives the first record with its last byte, and the walk of no shorter beginning has it
+third-first : (m : ℕ) → m < 2 → Before [] (walkTo judge tt (1 ∷ 7 ∷ 2 ∷ 8 ∷ 9 ∷ []) m)
+third-first = is-prompt pieces [] first-two third later (omega arith) seven-calls .gave-first (record { at = 0; bytes = 7 ∷ [] }) refl
+
+-- ---- a refusal, and the same again at a feed and at a close
+
+abbrev refusing : Call (Unit {0}) Item
+refusing = fedCall (255 ∷ 1 ∷ []) (0 ∷ 0 ∷ 0 ∷ 0 ∷ [])
+    (record { answer = stops (refused BadValue 0); count = 1; walker = done 1 1 (refused BadValue 0); hold = 255 ∷ 0 ∷ 0 ∷ 0 ∷ [] })
+
+abbrev again : Call (Unit {0}) Item
+again = fedCall (3 ∷ []) (255 ∷ 8 ∷ 8 ∷ 8 ∷ []) (still (done 1 1 (refused BadValue 0)) (255 ∷ 8 ∷ 8 ∷ 8 ∷ []) (refused BadValue 0))
+
+abbrev at-close : Call (Unit {0}) Item
+at-close = closeCall (255 ∷ 9 ∷ 9 ∷ 9 ∷ []) (still (done 1 1 (refused BadValue 0)) (255 ∷ 9 ∷ 9 ∷ 9 ∷ []) (refused BadValue 0))
+
+refused-again : Run judge 4 12 wrong ((255 ∷ 1 ∷ []) ∷ (3 ∷ []) ∷ []) (fresh tt) [] (refusing ∷ again ∷ at-close ∷ [])
+unfolding feedOf closeOf taken judge
+refused-again = feeds (four refl) refl (feeds (four refl) refl (closes (four refl) refl rests))
