@@ -2,11 +2,10 @@
 -- While no call has stopped (`Open`), the held bytes are the log's bytes from the start of the record in hand, they wait, and the walk
 -- of every beginning of the log that reaches that start is the records given so far and then the walk from there on. Once a call has
 -- stopped (`Shut`), the walker keeps that answer and its numbers stay in range.
---   Early, Before           an ending that more log may change; no more records than these, and such an ending
---   walkTo m                the walk of the log's first m bytes
---   feed-step, close-step   what a feed and a close do to an open walker (`Step`)
+--   Step                       what a call did to an open walker: how it answered (`Next`), and what holds whatever it answered
+--   feed-step, close-step      what a feed and a close do
 -- Assumes nothing.
-use Prim.Native.Nat.{ℕ, zero, suc, _+_, _-_, _≤_, _<_}
+use Prim.Native.Nat.{ℕ, _+_, _-_, _≤_, _<_}
 use mathlib.Core.Path.{_≡_, refl, sym, ap, _∙_}
 use mathlib.Core.Bool.{Bool, true, false}
 use mathlib.Core.Option.{none, some}
@@ -18,36 +17,18 @@ use lib.Seq.{paste, take-paste, take-all, take-take, take-append-le, drop-append
 use Rattle.number.specs.Range.{partOf}
 use Rattle.number.proofs.Cases.{split, both}
 use Rattle.number.proofs.RangeLaws.{length-part, part-add}
-use Rattle.refusal.specs.declared.Why.the-variants.{FieldCut}
 use Rattle.refusal.specs.declared.Why.{Why}
 use Rattle.pieces.specs.Verdict.{Verdict, more, sound, bad, Judge, decided, Steady}
-use Rattle.pieces.specs.Walk.{Ending, ended, refused, closing, Told, add, walk}
+use Rattle.pieces.specs.Walk.{Ending, refused, closing, add, walk}
 use Rattle.pieces.specs.Taken.{taken, Least}
 use Rattle.pieces.specs.Feed.{Walker, gives, stops, wants, Outcome, start, fed, closed, feedOf, closeOf}
 use Rattle.pieces.specs.Run.{join, after, Lent}
 use Rattle.pieces.proofs.VerdictLaws.{sound-all, waits-within}
 use Rattle.pieces.proofs.WalkLaws.{walk-more, walk-sound, walk-bad}
+use Rattle.pieces.proofs.Beginnings.{Early, Before, walkTo, walk-waits}
 use Rattle.pieces.proofs.TakenLaws.{taken-least, waits-all, none-before, taken-within}
 use Rattle.pieces.proofs.FeedLaws.{InRange, feed-passed, close-passed}
 use Rattle.pieces.proofs.RunLaws.{adds}
-
--- the end, or a field that is cut: more log may change these
-pub data Early : Ending → Type 0 where
-  an-end : {at tail : ℕ} → Early (ended at tail)
-  a-cut : {at : ℕ} → Early (refused FieldCut at)
-
--- what is told has no more records than these, and an ending that more log may change
-pub record Before {Rec : Type 0} (rs : List Rec) (t : Told Rec) : Type 0 where
-  pub few : length (t .records) ≤ length rs
-  pub early : Early (t .ending)
-
-closing-early : (base : ℕ) (p : List ℕ) (s : ℕ) → Early (closing base p s)
-closing-early base p zero = an-end
-closing-early base p (suc s) = a-cut
-
--- the walk of the log's first m bytes
-abbrev pub walkTo : {Shape Rec : Type 0} → Judge Shape Rec → Shape → List ℕ → ℕ → Told Rec
-walkTo judge sh log m = walk judge sh 0 (take m log)
 
 module _ {Shape Rec : Type 0} (judge : Judge Shape Rec) (full most : ℕ) (wrong : Shape → Bool) (sh : Shape) (log : List ℕ) where
   -- No call has stopped: the record in hand starts at `base`, the records rs were given, and the pieces ps are to come.
@@ -95,24 +76,15 @@ module _ {Shape Rec : Type 0} (judge : Judge Shape Rec) (full most : ℕ) (wrong
       (within : (sh : Shape) (base : ℕ) (p : List ℕ) (s e : ℕ) → judge sh base p ≡ more s e → e ≤ full)
       (right : (sh : Shape) (base : ℕ) (p : List ℕ) (r : Rec) (n : ℕ) (next : Shape) → judge sh base p ≡ sound r n next → wrong sh ≡ false → wrong next ≡ false)
       (short : length log ≤ most) where
-    -- what waits tells nothing more, and its ending is early
-    walk-waits : (s : Shape) (base : ℕ) (p : List ℕ) → decided (judge s base p) ≡ false
-        → (walk judge s base p .records ≡ []) × Early (walk judge s base p .ending)
-    walk-waits s base p d = go (judge s base p) refl
-      where
-        go : (v : Verdict Shape Rec) → judge s base p ≡ v → (walk judge s base p .records ≡ []) × Early (walk judge s base p .ending)
-        go (more a b) j = rw (walk-more judge laws s base p a b j) (refl, closing-early base p a)
-        go (sound r n next) j = both (ap decided j) d
-        go (bad why at) j = both (ap decided j) d
-
     -- where the bytes from `base` on wait, the walk up to there gives the records before, and an ending that may change
     rest-waits : (s : Shape) (base k : ℕ) (rs : List Rec) → walkTo judge sh log (base + k) ≡ adds rs (walk judge s base (partOf log base k))
         → decided (judge s base (partOf log base k)) ≡ false
         → (walkTo judge sh log (base + k) .records ≡ rs) × Early (walkTo judge sh log (base + k) .ending)
     rest-waits s base k rs e d =
-        let (a, b) = walk-waits s base (partOf log base k) d in
+        let (a, b) = walk-waits judge laws s base (partOf log base k) d in
         rw e (ap (λ l. rs ++ l) a ∙ append-nil rs, b)
 
+    -- so it is before them
     pub rest-before : (s : Shape) (base k : ℕ) (rs : List Rec) → walkTo judge sh log (base + k) ≡ adds rs (walk judge s base (partOf log base k))
         → decided (judge s base (partOf log base k)) ≡ false → Before rs (walkTo judge sh log (base + k))
     rest-before s base k rs e d = let (a, b) = rest-waits s base k rs e d in record { few = omega (arith, ap length a); early = b }
@@ -120,6 +92,7 @@ module _ {Shape Rec : Type 0} (judge : Judge Shape Rec) (full most : ℕ) (wrong
     -- ---- an open state
 
     module _ (base : ℕ) (rs : List Rec) (ps : List (List ℕ)) (w : Walker Shape) (last : List ℕ) (o : Open base rs ps w last) where
+      -- the held bytes leave room in the hold
       held-within : w .held < full
       held-within =
           let l : length (partOf log base (w .held)) ≡ w .held = length-part log base (w .held) (omega (arith, o .place, o .reach)) in
@@ -134,7 +107,7 @@ module _ {Shape Rec : Type 0} (judge : Judge Shape Rec) (full most : ℕ) (wrong
         right = o .fine;
       }
 
-      -- the walk of the bytes taken so far has no further record, and its ending may change
+      -- The walk of the bytes taken so far has no further record, and its ending may change.
       pub open-told : (walkTo judge sh log (w .total) .records ≡ rs) × Early (walkTo judge sh log (w .total) .ending)
       open-told = rw (o .place) (rest-waits (w .shape) base (w .held) rs (o .rest (w .held)) (o .waits))
 
@@ -308,6 +281,7 @@ module _ {Shape Rec : Type 0} (judge : Judge Shape Rec) (full most : ℕ) (wrong
             ∙ ap (λ l. record { records = l; ending = refused why at }) (append-nil rs);
       })
 
+      -- A feed to an open walker is such a step.
       pub feed-step : Step rs w p (after (feedOf judge full most wrong w hold p .answer) (feedOf judge full most wrong w hold p .count) p ps)
           (feedOf judge full most wrong w hold p)
       feed-step = rw feed-open (go (judge (w .shape) base (partOf log base (w .held + n))) refl)
@@ -371,9 +345,11 @@ module _ {Shape Rec : Type 0} (judge : Judge Shape Rec) (full most : ℕ) (wrong
             ∙ ap (λ t. record { records = rs; ending = closing t y s }) b;
       }
 
+      -- A close of an open walker stops,
       pub close-stops : Stopping rs w (closeOf judge full most wrong w hold)
       close-stops = by-close (Stopping rs w) closing-stops
 
+      -- and is such a step.
       pub close-step : Step rs w [] [] (closeOf judge full most wrong w hold)
       close-step = by-close (Step rs w [] []) (λ s e j. record {
         next = next-stops (closing-stops s e j);

@@ -3,8 +3,8 @@
 -- `walkTo judge sh log m` is the walk of the log's first m bytes.
 --   Prompt     what is said of one call: (a) to (e) of its fields
 --   prompt     it holds of every call
---   repeats    (f): after a stop every later call says the same again
--- `Early` and `Before` are in proofs/OneCall.antt, `given`, `pieceOf` and `lentTo` in proofs/RunLaws.antt. Assumes nothing.
+--   repeats, stays-shut    (f): after a stop every later call of the run says the same again, and so would any other
+-- `Early` and `Before` are in proofs/Beginnings.antt, `given`, `pieceOf` and `lentTo` in proofs/RunLaws.antt. Assumes nothing.
 use Prim.Native.Nat.{ℕ, _+_, _-_, _≤_, _<_}
 use mathlib.Core.Path.{_≡_, refl, ap, _∙_}
 use mathlib.Core.Bool.{Bool, false}
@@ -17,11 +17,13 @@ use Rattle.refusal.specs.declared.Why.{Why}
 use Rattle.refusal.specs.declared.Why.the-variants.{FieldCut}
 use Rattle.pieces.specs.Verdict.{more, sound, Judge, Steady}
 use Rattle.pieces.specs.Walk.{Ending, refused}
-use Rattle.pieces.specs.Feed.{gives, stops, wants, fresh}
+use Rattle.pieces.specs.Feed.{gives, stops, wants, fresh, still, feedOf, closeOf}
 use Rattle.pieces.specs.Run.{join, Call, outcomeOf, stopped, took, holding, Run}
 use Rattle.pieces.proofs.VerdictLaws.{never}
+use Rattle.pieces.proofs.FeedLaws.{feed-kept, close-kept}
 use Rattle.pieces.proofs.RunLaws.{pieceOf, lentTo, given}
-use Rattle.pieces.proofs.OneCall.{Early, Before, walkTo, Shut, Next, next-gives, next-wants, next-stops, open-told}
+use Rattle.pieces.proofs.Beginnings.{Early, Before, walkTo}
+use Rattle.pieces.proofs.OneCall.{Shut, Next, next-gives, next-wants, next-stops, open-told}
 use Rattle.pieces.proofs.Reached.{Called, called-open, called-shut, call-at, shut-repeats}
 
 -- how many bytes were taken up to the end of the call c
@@ -144,3 +146,16 @@ module _ {Shape Rec : Type 0} (judge : Judge Shape Rec) (full most : ℕ) (wrong
   repeats sh ps last bs c cs d ds e ok short r a =
       let (qs, called, z) = call-at judge full most wrong sh (join ps) laws within right short ps last refl ok bs c (cs ++ (d ∷ ds)) r in
       shut-repeats judge full most wrong sh (join ps) e cs d ds (stop-shuts sh (join ps) short bs c qs called e a) z
+
+  -- And so would any feed, of any piece, and any close, over any hold of full size: a feed after a close too, which no run has.
+  pub stays-shut : (sh : Shape) (ps : List (List ℕ)) (last : List ℕ) (bs : List (Call Shape Rec)) (c : Call Shape Rec) (cs : List (Call Shape Rec))
+      (e : Ending) → wrong sh ≡ false → length (join ps) ≤ most → Run judge full most wrong ps (fresh sh) last (bs ++ (c ∷ cs))
+      → outcomeOf c .answer ≡ stops e → (hold : List ℕ) → full ≤ length hold
+      → ((piece : List ℕ) → feedOf judge full most wrong (outcomeOf c .walker) hold piece ≡ still (outcomeOf c .walker) hold e)
+      × (closeOf judge full most wrong (outcomeOf c .walker) hold ≡ still (outcomeOf c .walker) hold e)
+  stays-shut sh ps last bs c cs e ok short r a hold h =
+      let (qs, called, z) = call-at judge full most wrong sh (join ps) laws within right short ps last refl ok bs c cs r in
+      let k = stop-shuts sh (join ps) short bs c qs called e a in (
+        λ piece. feed-kept judge full most wrong (outcomeOf c .walker) hold (k .ranged hold h) piece e (k .keeps),
+        close-kept judge full most wrong (outcomeOf c .walker) hold (k .ranged hold h) e (k .keeps),
+      )

@@ -18,7 +18,8 @@ use Rattle.pieces.specs.Feed.{Walker, Answer, gives, stops, wants, fresh
 use Rattle.pieces.specs.Run.{join, Call, after, tells, record?, stop?, outcomeOf, stopped, took, holding, told, Run, feeds, closes}
 use Rattle.pieces.proofs.FeedLaws.{feed-kept, close-kept}
 use Rattle.pieces.proofs.RunLaws.{adds, pieceOf, lentTo, given, stopped-append, took-append, holding-append, told-append, told-stopped}
-use Rattle.pieces.proofs.OneCall.{walkTo, Open, Shut, Next, next-gives, next-wants, next-stops, Step, rest-before, feed-step, close-step}
+use Rattle.pieces.proofs.Beginnings.{walkTo}
+use Rattle.pieces.proofs.OneCall.{Open, Shut, Next, next-gives, next-wants, next-stops, Step, rest-before, feed-step, close-step}
 
 module _ {Shape Rec : Type 0} (judge : Judge Shape Rec) (full most : ℕ) (wrong : Shape → Bool) (sh : Shape) (log : List ℕ) where
   -- After the calls bs the walker is w, the hold was left as `last`, and the pieces ps are to come.
@@ -119,6 +120,7 @@ module _ {Shape Rec : Type 0} (judge : Judge Shape Rec) (full most : ℕ) (wrong
     -- ---- from a fresh walker
 
     module _ (ps : List (List ℕ)) (last : List ℕ) (all : join ps ≡ log) (ok : wrong sh ≡ false) where
+      -- A fresh walker is open, with nothing held and no records given.
       pub fresh-open : Open judge full most wrong sh log 0 [] ps (fresh sh) last
       fresh-open =
           let rest : (k : ℕ) → walkTo judge sh log (0 + k) ≡ adds [] (walk judge sh 0 (partOf log 0 k)) = λ k. rw (zero-add k) in
@@ -136,12 +138,12 @@ module _ {Shape Rec : Type 0} (judge : Judge Shape Rec) (full most : ℕ) (wrong
                 rw e (rest-before judge full most wrong sh log laws within right short sh 0 0 [] (rest 0) (laws sh 0 .opens));
           }
 
-      -- the state after the first calls of a run
+      -- The state after the first calls of a run is reached.
       pub after-calls : (bs cs : List (Call Shape Rec)) → Run judge full most wrong ps (fresh sh) last (bs ++ cs)
           → (qs : List (List ℕ)) × (v : Walker Shape) × (hold : List ℕ) × Reached bs qs v hold × Run judge full most wrong qs v hold cs
       after-calls bs cs r = reach [] bs cs (reached-open 0 refl refl refl fresh-open) r
 
-      -- any call of a run, and the rest of it
+      -- So any call of a run is made in such a state; and the rest of the run.
       pub call-at : (bs : List (Call Shape Rec)) (c : Call Shape Rec) (cs : List (Call Shape Rec))
           → Run judge full most wrong ps (fresh sh) last (bs ++ (c ∷ cs))
           → (qs : List (List ℕ)) × Called bs c qs × Run judge full most wrong qs (outcomeOf c .walker) (outcomeOf c .hold) cs

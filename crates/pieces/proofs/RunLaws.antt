@@ -32,7 +32,7 @@ module _ {Shape Rec : Type 0} where
   abbrev pub given : List (Call Shape Rec) → List Rec
   given cs = told (ended 0 0) cs .records
 
-  -- What is told does not depend on the ending that stands for none,
+  -- The records told do not depend on the ending that stands for none.
   pub told-records : (d e : Ending) (cs : List (Call Shape Rec)) → told d cs .records ≡ told e cs .records
   told-records d e [] = refl
   told-records d e (c ∷ cs) = go (outcomeOf c .answer) (told-records d e cs)
@@ -43,6 +43,7 @@ module _ {Shape Rec : Type 0} where
       go wants ih = ih
 
   module _ (cs : List (Call Shape Rec)) where
+    -- Two lists of calls, one after the other, stopped where either did.
     pub stopped-append : (bs : List (Call Shape Rec)) → stopped (bs ++ cs) ≡ stopped bs || stopped cs
     stopped-append [] = refl
     stopped-append (b ∷ bs) = go (stop? (outcomeOf b .answer)) (stopped-append bs)
@@ -51,15 +52,17 @@ module _ {Shape Rec : Type 0} where
         go true ih = refl
         go false ih = ih
 
+    -- They took what both took.
     pub took-append : (bs : List (Call Shape Rec)) → took (bs ++ cs) ≡ took bs + took cs
     took-append [] = sym (zero-add (took cs))
     took-append (b ∷ bs) = ap (λ n. outcomeOf b .count + n) (took-append bs) ∙ sym (add-assoc (outcomeOf b .count) (took bs) (took cs))
 
+    -- The second goes on with what the first holds.
     pub holding-append : (h : ℕ) (bs : List (Call Shape Rec)) → holding h (bs ++ cs) ≡ holding (holding h bs) cs
     holding-append h [] = refl
     holding-append h (b ∷ bs) = holding-append (cond (record? (outcomeOf b .answer)) 0 (h + outcomeOf b .count)) bs
 
-    -- after calls that did not stop, what later calls told comes after their records
+    -- After calls that did not stop, what later calls told comes after their records.
     pub told-append : (e : Ending) (bs : List (Call Shape Rec)) → stopped bs ≡ false → told e (bs ++ cs) ≡ adds (given bs) (told e cs)
     told-append e [] f = refl
     told-append e (b ∷ bs) f = go (outcomeOf b .answer) f (told-append e bs)
@@ -70,7 +73,7 @@ module _ {Shape Rec : Type 0} where
         go (stops x) f ih = both refl f
         go wants f ih = ih f
 
-    -- after calls that stopped, nothing more is told
+    -- After calls that stopped, nothing more is told.
     pub told-stopped : (e : Ending) (bs : List (Call Shape Rec)) → stopped bs ≡ true → told e (bs ++ cs) ≡ told e bs
     told-stopped e [] t = both t refl
     told-stopped e (b ∷ bs) t = go (outcomeOf b .answer) t (told-stopped e bs)

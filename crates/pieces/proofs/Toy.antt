@@ -21,7 +21,7 @@ use Rattle.pieces.specs.Run.{join, Call, fedCall, closeCall, outcomeOf, 
 use Rattle.pieces.proofs.PlanLaws.{Gives, read-steady, read-within, read-gives}
 use Rattle.pieces.proofs.TakenLaws.{jump, jump-taken, stop, stop-taken}
 use Rattle.pieces.proofs.RunLaws.{lentTo}
-use Rattle.pieces.proofs.OneCall.{Before, walkTo}
+use Rattle.pieces.proofs.Beginnings.{Before, walkTo}
 use Rattle.pieces.proofs.Agreement.{agreement, runs-exist}
 use Rattle.pieces.proofs.Promptness.{Prompt, prompt, repeats}
 
@@ -211,16 +211,14 @@ later =
 four : {held : ℕ} {last : List ℕ} {a b c d : ℕ} → take held (a ∷ b ∷ c ∷ d ∷ []) ≡ take held last → Lent 4 held last (a ∷ b ∷ c ∷ d ∷ [])
 four s = record { size = omega arith; same = s }
 
-seven-calls : Run judge 4 12 wrong pieces (fresh tt) [] (first-two ++ (third ∷ later))
+-- the last four first: one run of seven is slow to check
+later-calls : Run judge 4 12 wrong ((2 ∷ []) ∷ (8 ∷ 9 ∷ []) ∷ []) (walker 0 2) (1 ∷ 7 ∷ 4 ∷ 4 ∷ []) later
 unfolding feedOf closeOf taken judge
-seven-calls =
-    feeds (four refl) refl
-    (feeds (four refl) refl
-    (feeds (four refl) refl
-    (feeds (four refl) refl
-    (feeds (four refl) refl
-    (feeds (four refl) refl
-    (closes (four refl) refl rests))))))
+later-calls = feeds (four refl) refl (feeds (four refl) refl (feeds (four refl) refl (closes (four refl) refl rests)))
+
+seven-calls : Run judge 4 12 wrong pieces (fresh tt) [] (first-two ++ (third ∷ later))
+unfolding feedOf taken judge
+seven-calls = feeds (four refl) refl (feeds (four refl) refl (feeds (four refl) refl later-calls))
 
 -- what they tell, by agreement
 seven-tell : (e : Ending) → told e (first-two ++ (third ∷ later)) ≡ walk judge tt 0 (1 ∷ 7 ∷ 2 ∷ 8 ∷ 9 ∷ [])
