@@ -49,10 +49,12 @@ wrong sh = false
 
 -- ---- the theorems, at the format
 
+-- Its laws are those of every plan.
 pub steady : (sh : Unit {0}) (base : ℕ) → Steady (judge sh base)
 unfolding judge
 steady sh base = read-steady 4 base 1 (after-byte base) (omega arith) (omega arith)
 
+-- No field is waited for past 4 bytes.
 pub within : (sh : Unit {0}) (base : ℕ) (p : List ℕ) (s e : ℕ) → judge sh base p ≡ more s e → e ≤ 4
 unfolding judge
 within sh base = read-within 4 base (want 1 (after-byte base))
@@ -60,35 +62,42 @@ within sh base = read-within 4 base (want 1 (after-byte base))
 right : (sh : Unit {0}) (base : ℕ) (p : List ℕ) (r : Item) (n : ℕ) (next : Unit {0}) → judge sh base p ≡ sound r n next → wrong sh ≡ false → wrong next ≡ false
 right sh base p r n next j ok = refl
 
+-- Agreement.
 pub agrees : (ps : List (List ℕ)) (last : List ℕ) (cs : List (Call (Unit {0}) Item)) → length (join ps) ≤ 12
     → Run judge 4 12 wrong ps (fresh tt) last cs → stopped cs ≡ true → (e : Ending) → told e cs ≡ walk judge tt 0 (join ps)
 agrees ps last cs = agreement judge 4 12 wrong steady within right tt ps last cs refl
 
+-- Promptness.
 pub is-prompt : (ps : List (List ℕ)) (last : List ℕ) (bs : List (Call (Unit {0}) Item)) (c : Call (Unit {0}) Item) (cs : List (Call (Unit {0}) Item))
     → length (join ps) ≤ 12 → Run judge 4 12 wrong ps (fresh tt) last (bs ++ (c ∷ cs)) → Prompt judge tt (join ps) bs c
 is-prompt ps last bs c cs = prompt judge 4 12 wrong steady within right tt ps last bs c cs refl
 
+-- After a stop, the same again.
 pub says-again : (ps : List (List ℕ)) (last : List ℕ) (bs : List (Call (Unit {0}) Item)) (c : Call (Unit {0}) Item) (cs : List (Call (Unit {0}) Item))
     (d : Call (Unit {0}) Item) (ds : List (Call (Unit {0}) Item)) (e : Ending) → length (join ps) ≤ 12
     → Run judge 4 12 wrong ps (fresh tt) last (bs ++ (c ∷ (cs ++ (d ∷ ds)))) → outcomeOf c .answer ≡ stops e
     → outcomeOf d ≡ still (outcomeOf c .walker) (lentTo d) e
 says-again ps last bs c cs d ds e = repeats judge 4 12 wrong steady within right tt ps last bs c cs d ds e refl
 
+-- There are runs that stop.
 pub has-runs : (ps : List (List ℕ)) (hold : List ℕ) → length (join ps) ≤ 12 → 4 ≤ length hold
     → (cs : List (Call (Unit {0}) Item)) × Run judge 4 12 wrong ps (fresh tt) hold cs × (stopped cs ≡ true)
 has-runs ps hold = runs-exist judge 4 12 wrong steady within right tt ps hold refl
 
+-- To go from field's end to field's end takes the same bytes,
 pub jumps : (base : ℕ) (h p : List ℕ) → jump (judge tt base) h p ≡ taken (judge tt base) h p
 jumps base = jump-taken (judge tt base) (steady tt base)
 
+-- and so does to read on.
 pub reads-on : (base : ℕ) (h p : List ℕ) → decided (judge tt base h) ≡ false → stop 4 (want 1 (after-byte base)) 0 (h ++ p) ≡ length h + taken (judge tt base) h p
 unfolding judge
 reads-on base = stop-taken 4 base (want 1 (after-byte base)) (steady tt base)
 
--- every record starts where it was found, and is as long as its length says
+-- r starts at `base`, and its n bytes are a length and the bytes after it
 abbrev Sized : ℕ → Item → ℕ → Unit {0} → Type 0
 Sized base r n next = (r .at ≡ base) × (n ≡ 1 + length (r .bytes))
 
+-- Every record starts where it was found, and is as long as its length says.
 pub items-sized : (base : ℕ) (p : List ℕ) (r : Item) (n : ℕ) (next : Unit {0}) → judge tt base p ≡ sound r n next → Sized base r n next
 unfolding judge
 items-sized base p r n next = read-gives 4 base (Sized base) (want 1 (after-byte base)) 0 p r n next (λ b l. go (getD b 0 0) (eqb (getD b 0 0) 255))
