@@ -1,7 +1,9 @@
 -- Agreement: feeding a log by pieces and closing tells what the walk of the whole log tells.
 --   agreement              of every run that stopped, however the log was cut, whatever the rest of each lent hold has
 --   drive                  a caller, over one hold
---   drive-run, drive-stops, runs-exist      its calls are a run, and it stops: there are such runs
+--   drive-run, -stops      its calls are a run, and it stops
+--   runs-exist             so there are such runs
+--   drive-agrees           and agreement for that caller
 -- A log past the limit has no part in this: `wholeWalk-long` (proofs/WalkLaws.antt) and `feed-long` (proofs/FeedLaws.antt).
 -- Assumes nothing.
 use Prim.Native.Nat.{ℕ, zero, suc, _+_, _≤_}
@@ -59,6 +61,14 @@ module _ {Shape Rec : Type 0} (judge : Judge Shape Rec) (full most : ℕ) (wrong
 
   -- ---- there are such runs
 
+  -- a run that goes on after its first call, or not
+  onward-run : (a : Answer Rec) (f : ℕ) (w : Walker Shape) (hold : List ℕ) (ps : List (List ℕ))
+      → Run judge full most wrong ps w hold (drive judge full most wrong f w hold ps)
+      → Run judge full most wrong ps w hold (onward a (λ _. drive judge full most wrong f w hold ps))
+  onward-run (gives r) f w hold ps i = i
+  onward-run (stops e) f w hold ps i = rests
+  onward-run wants f w hold ps i = i
+
   -- The calls that a caller makes over a hold of full size are a run.
   pub drive-run : (f : ℕ) (w : Walker Shape) (hold : List ℕ) (ps : List (List ℕ)) → full ≤ length hold
       → Run judge full most wrong ps w hold (drive judge full most wrong f w hold ps)
@@ -67,25 +77,14 @@ module _ {Shape Rec : Type 0} (judge : Judge Shape Rec) (full most : ℕ) (wrong
   drive-run (suc f) w hold [] h =
       let o : Outcome Shape Rec = closeOf judge full most wrong w hold in
       let l : full ≤ length (o .hold) = rw (close-still judge full most wrong w hold .1) h in
-      closes (record { size = h; same = refl }) refl (go (o .answer) (o .walker) (o .hold) (drive-run f (o .walker) (o .hold) [] l))
-    where
-      go : (a : Answer Rec) (v : Walker Shape) (hold : List ℕ) → Run judge full most wrong [] v hold (drive judge full most wrong f v hold [])
-          → Run judge full most wrong [] v hold (onward a (λ _. drive judge full most wrong f v hold []))
-      go (gives r) v hold i = i
-      go (stops e) v hold i = rests
-      go wants v hold i = i
+      closes (record { size = h; same = refl }) refl (onward-run (o .answer) f (o .walker) (o .hold) [] (drive-run f (o .walker) (o .hold) [] l))
   drive-run (suc f) w hold (p ∷ ps) h =
       let o : Outcome Shape Rec = feedOf judge full most wrong w hold p in
       let l : full ≤ length (o .hold) = rw (feed-length judge full most wrong w hold laws within p) h in
-      feeds (record { size = h; same = refl }) refl
-      (go (o .answer) (o .walker) (o .hold) (after (o .answer) (o .count) p ps) (drive-run f (o .walker) (o .hold) (after (o .answer) (o .count) p ps) l))
-    where
-      go : (a : Answer Rec) (v : Walker Shape) (hold : List ℕ) (qs : List (List ℕ)) → Run judge full most wrong qs v hold (drive judge full most wrong f v hold qs)
-          → Run judge full most wrong qs v hold (onward a (λ _. drive judge full most wrong f v hold qs))
-      go (gives r) v hold qs i = i
-      go (stops e) v hold qs i = rests
-      go wants v hold qs i = i
+      let qs : List (List ℕ) = after (o .answer) (o .count) p ps in
+      feeds (record { size = h; same = refl }) refl (onward-run (o .answer) f (o .walker) (o .hold) qs (drive-run f (o .walker) (o .hold) qs l))
 
+  -- from an open walker it stops in time
   drive-open : (sh : Shape) (log : List ℕ) → length log ≤ most → (f base : ℕ) (rs : List Rec) (w : Walker Shape) (hold : List ℕ) (ps : List (List ℕ))
       → Open judge full most wrong sh log base rs ps w hold → full ≤ length hold → turns ps ≤ f → stopped (drive judge full most wrong f w hold ps) ≡ true
   unfolding drive
@@ -119,3 +118,10 @@ module _ {Shape Rec : Type 0} (judge : Judge Shape Rec) (full most : ℕ) (wrong
       → (cs : List (Call Shape Rec)) × Run judge full most wrong ps (fresh sh) hold cs × (stopped cs ≡ true)
   runs-exist sh ps hold ok short h =
       (drive judge full most wrong (turns ps) (fresh sh) hold ps, drive-run (turns ps) (fresh sh) hold ps h, drive-stops sh ps hold ok short h)
+
+  -- And the caller is told what the walk of the whole log tells.
+  pub drive-agrees : (sh : Shape) (ps : List (List ℕ)) (hold : List ℕ) → wrong sh ≡ false → length (join ps) ≤ most → full ≤ length hold
+      → (e : Ending) → told e (drive judge full most wrong (turns ps) (fresh sh) hold ps) ≡ walk judge sh 0 (join ps)
+  drive-agrees sh ps hold ok short h =
+      agreement sh ps hold (drive judge full most wrong (turns ps) (fresh sh) hold ps) ok short
+      (drive-run (turns ps) (fresh sh) hold ps h) (drive-stops sh ps hold ok short h)
