@@ -4,7 +4,7 @@
 --   Promptness     every call of every run, in terms of the walk of beginnings of the log: what it gives, that nothing shorter gives it,
 --                  what it takes and writes, and that it repeats itself after a stop
 -- For a format: give its plan, and take the laws from `read-steady` and `read-within`. Toy is a whole instance, with worked cases.
---   PlanLaws       reading by any plan keeps the laws; the cases of a field; invariants of the records that a plan can give
+--   PlanLaws       reading by any plan keeps the laws; the cases of a field; invariants of its records and refusals
 --   VerdictLaws    what follows at once from the laws
 -- For the code of a walk, of slots and of a feed:
 --   WalkLaws       the walk's equation and its cases, induction by records, logs past the limit

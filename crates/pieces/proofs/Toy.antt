@@ -10,15 +10,17 @@ use mathlib.Core.List.{List, [], _∷_, _++_}
 use native.Mathlib.Omega.{arith}
 use lib.Dec.{eqb}
 use lib.ListN.{length, take, getD}
+use Rattle.refusal.specs.declared.Why.{Why}
 use Rattle.refusal.specs.declared.Why.the-variants.{LogTooLong, FieldCut, FieldTooFar, BadValue, NoSlot, TotalTooLong, OutOfRange}
-use Rattle.pieces.specs.Verdict.{more, sound, Judge, decided, Steady}
+use Rattle.pieces.specs.Verdict.{more, sound, bad, Judge, decided, Steady}
 use Rattle.pieces.specs.Plan.{Plan, want, give, deny, read}
 use Rattle.pieces.specs.Walk.{Ending, ended, refused, Told, only, walk, wholeWalk}
 use Rattle.pieces.specs.Slots.{into}
 use Rattle.pieces.specs.Taken.{taken}
 use Rattle.pieces.specs.Feed.{Walker, Outcome, gives, stops, wants, fresh, still, feedOf, closeOf}
 use Rattle.pieces.specs.Run.{join, Call, fedCall, closeCall, outcomeOf, stopped, told, Lent, Run, rests, feeds, closes}
-use Rattle.pieces.proofs.PlanLaws.{Gives, read-steady, read-within, read-gives}
+use Rattle.pieces.proofs.VerdictLaws.{never}
+use Rattle.pieces.proofs.PlanLaws.{Gives, Denies, read-steady, read-within, read-gives, read-denies}
 use Rattle.pieces.proofs.TakenLaws.{jump, jump-taken, stop, stop-taken}
 use Rattle.pieces.proofs.RunLaws.{lentTo}
 use Rattle.pieces.proofs.Beginnings.{Before, walkTo}
@@ -105,6 +107,16 @@ items-sized base p r n next = read-gives 4 base (Sized base) (want 1 (after-byte
     go : (n : ℕ) (t : Bool) → Gives (Sized base) (after-length base n t) 1
     go n true = tt
     go n false = λ d e. (refl, omega arith)
+
+-- It never says 2 itself: only a log that ends does.
+pub never-cut : (base : ℕ) (p : List ℕ) (why : Why) (at : ℕ) → judge tt base p ≡ bad why at → why ≡ FieldCut → ⊥
+unfolding judge
+never-cut base p why at = read-denies 4 base (λ why at. why ≡ FieldCut → ⊥) (λ at e. never (cc)) (want 1 (after-byte base)) 0 p why at
+    (λ b l. go (getD b 0 0) (eqb (getD b 0 0) 255))
+  where
+    go : (n : ℕ) (t : Bool) → Denies (λ why at. why ≡ FieldCut → ⊥) (after-length base n t)
+    go n true = λ e. never (cc)
+    go n false = λ d e. tt
 
 -- ---- logs
 
