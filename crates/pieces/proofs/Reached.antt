@@ -1,0 +1,150 @@
+-- Every state that a run from a fresh walker reaches, by induction over the run: each call keeps the invariant of proofs/OneCall.antt.
+--   Reached bs ..    the state after the calls bs
+--   Called bs c      what the call c did, after the calls bs
+--   reach, call-at   the state after the first calls of a run, and any call of a run
+-- Assumes nothing.
+use Prim.Native.Nat.{ℕ, _+_, _≤_}
+use mathlib.Core.Path.{_≡_, refl, sym, ap, _∙_}
+use mathlib.Core.Bool.{Bool, true, false, _||_, cond}
+use mathlib.Core.List.{List, [], _∷_, _++_, append-assoc, append-nil}
+use native.Mathlib.Omega.{arith}
+use native.Mathlib.Nat.{zero-add}
+use lib.ListN.{length}
+use lib.Seq.{take-all}
+use Rattle.number.specs.Range.{partOf}
+use Rattle.pieces.specs.Verdict.{Judge, more, sound, Steady}
+use Rattle.pieces.specs.Walk.{Ending, ended, only, walk}
+use Rattle.pieces.specs.Feed.{Walker, Answer, gives, stops, wants, fresh, still}
+use Rattle.pieces.specs.Run.{join, Call, after, tells, record?, stop?, outcomeOf, stopped, took, holding, told, Run, feeds, closes}
+use Rattle.pieces.proofs.FeedLaws.{feed-kept, close-kept}
+use Rattle.pieces.proofs.RunLaws.{adds, pieceOf, lentTo, given, stopped-append, took-append, holding-append, told-append, told-stopped}
+use Rattle.pieces.proofs.Beginnings.{walkTo}
+use Rattle.pieces.proofs.OneCall.{Open, Shut, Next, next-gives, next-wants, next-stops, Step, rest-before, feed-step, close-step}
+
+module _ {Shape Rec : Type 0} (judge : Judge Shape Rec) (full most : ℕ) (wrong : Shape → Bool) (sh : Shape) (log : List ℕ) where
+  -- After the calls bs the walker is w, the hold was left as `last`, and the pieces ps are to come.
+  pub data Reached (bs : List (Call Shape Rec)) (ps : List (List ℕ)) (w : Walker Shape) (last : List ℕ) : Type 0 where
+    reached-open : (base : ℕ) → stopped bs ≡ false → w .total ≡ took bs → w .held ≡ holding 0 bs
+        → Open judge full most wrong sh log base (given bs) ps w last → Reached bs ps w last
+    reached-shut : (e : Ending) → stopped bs ≡ true → ((d : Ending) → told d bs ≡ walk judge sh 0 log)
+        → Shut judge full most wrong sh log e w → Reached bs ps w last
+
+  -- What the call c did, after the calls bs, to the walker w, with the pieces ps left to come.
+  pub data Called (bs : List (Call Shape Rec)) (c : Call Shape Rec) (ps : List (List ℕ)) : Type 0 where
+    called-open : (w : Walker Shape) → stopped bs ≡ false → w .total ≡ took bs → w .held ≡ holding 0 bs
+        → Step judge full most wrong sh log (given bs) w (pieceOf c) ps (outcomeOf c) → Called bs c ps
+    called-shut : (w : Walker Shape) (e : Ending) → stopped bs ≡ true → ((d : Ending) → told d bs ≡ walk judge sh 0 log)
+        → Shut judge full most wrong sh log e w → outcomeOf c ≡ still w (lentTo c) e → Called bs c ps
+
+  module _ (bs : List (Call Shape Rec)) (c : Call Shape Rec) (f : stopped bs ≡ false) where
+    -- after calls that did not stop, a call that stops or not
+    stopped-snoc : stopped (bs ++ (c ∷ [])) ≡ stop? (outcomeOf c .answer) || false
+    stopped-snoc = stopped-append (c ∷ []) bs ∙ rw f
+
+    told-snoc : (d : Ending) (a : Answer Rec) → outcomeOf c .answer ≡ a → told d (bs ++ (c ∷ [])) ≡ adds (given bs) (tells a (only d))
+    told-snoc d a e = told-append (c ∷ []) d bs f ∙ ap (λ x. adds (given bs) (tells x (only d))) e
+
+    given-snoc : (a : Answer Rec) → outcomeOf c .answer ≡ a → given (bs ++ (c ∷ [])) ≡ given bs ++ tells a (only (ended 0 0)) .records
+    given-snoc a e = ap (λ t. t .records) (told-snoc (ended 0 0) a e)
+
+  -- a call leaves a state that is reached
+  called-reached : {bs : List (Call Shape Rec)} {c : Call Shape Rec} {ps : List (List ℕ)} → Called bs c ps
+      → Reached (bs ++ (c ∷ [])) ps (outcomeOf c .walker) (outcomeOf c .hold)
+  called-reached {bs} {c} {ps} (called-shut w e t f k s) =
+      reached-shut e (stopped-append (c ∷ []) bs ∙ rw t) (λ d. told-stopped (c ∷ []) d bs t ∙ f d) (rw s k)
+  called-reached {bs} {c} {ps} (called-open w f t h s) = go (s .next)
+    where
+      total : outcomeOf c .walker .total ≡ took (bs ++ (c ∷ []))
+      total = omega (arith, s .total, took-append (c ∷ []) bs)
+
+      holds : holding 0 (bs ++ (c ∷ [])) ≡ cond (record? (outcomeOf c .answer)) 0 (holding 0 bs + outcomeOf c .count)
+      holds = holding-append (c ∷ []) 0 bs
+
+      go : Next judge full most wrong sh log (given bs) w (pieceOf c) ps (outcomeOf c)
+          → Reached (bs ++ (c ∷ [])) ps (outcomeOf c .walker) (outcomeOf c .hold)
+      go (next-gives r a o z p front) =
+          reached-open (outcomeOf c .walker .total) (stopped-snoc bs c f ∙ rw a) total (z ∙ sym (holds ∙ rw a)) (rw (given-snoc bs c f (gives r) a) o)
+      go (next-wants base a o z all) =
+          reached-open base (stopped-snoc bs c f ∙ rw a) total (z ∙ ap (λ n. n + outcomeOf c .count) h ∙ sym (holds ∙ rw a)) (rw (given-snoc bs c f wants a, append-nil (given bs)) o)
+      go (next-stops x) =
+          let m : ℕ = w .total + outcomeOf c .count + length log in
+          reached-shut (x .ending) (stopped-snoc bs c f ∙ rw (x .says))
+          (λ d. told-snoc bs c f d (stops (x .ending)) (x .says)
+          ∙ ap (λ l. record { records = l; ending = x .ending }) (append-nil (given bs))
+          ∙ sym (x .final m (omega arith))
+          ∙ ap (walk judge sh 0) (take-all m log (omega arith)))
+          (x .shut)
+
+  -- A walker that is shut says the same again, takes nothing and leaves the hold as it is, at every call of a run from there on.
+  pub shut-repeats : {ps : List (List ℕ)} {w : Walker Shape} {last : List ℕ} (e : Ending) (cs : List (Call Shape Rec)) (d : Call Shape Rec)
+      (ds : List (Call Shape Rec)) → Shut judge full most wrong sh log e w → Run judge full most wrong ps w last (cs ++ (d ∷ ds))
+      → outcomeOf d ≡ still w (lentTo d) e
+  shut-repeats e [] d ds k (feeds {p = p} {w = w} {hold = hold} l q r) =
+      q ∙ feed-kept judge full most wrong w hold (k .ranged hold (l .size)) p e (k .keeps)
+  shut-repeats e [] d ds k (closes {w = w} {hold = hold} l q r) =
+      q ∙ close-kept judge full most wrong w hold (k .ranged hold (l .size)) e (k .keeps)
+  shut-repeats e (c ∷ cs) d ds k (feeds {p = p} {w = w} {hold = hold} l q r) =
+      let i = q ∙ feed-kept judge full most wrong w hold (k .ranged hold (l .size)) p e (k .keeps) in
+      shut-repeats e cs d ds (rw i k) r ∙ rw i
+  shut-repeats e (c ∷ cs) d ds k (closes {w = w} {hold = hold} l q r) =
+      let i = q ∙ close-kept judge full most wrong w hold (k .ranged hold (l .size)) e (k .keeps) in
+      shut-repeats e cs d ds (rw i k) r ∙ rw i
+
+  module _ (laws : (sh : Shape) (base : ℕ) → Steady (judge sh base))
+      (within : (sh : Shape) (base : ℕ) (p : List ℕ) (s e : ℕ) → judge sh base p ≡ more s e → e ≤ full)
+      (right : (sh : Shape) (base : ℕ) (p : List ℕ) (r : Rec) (n : ℕ) (next : Shape) → judge sh base p ≡ sound r n next → wrong sh ≡ false → wrong next ≡ false)
+      (short : length log ≤ most) where
+    -- the first call of what is left of a run, and the rest of it
+    one-call : {bs : List (Call Shape Rec)} {ps : List (List ℕ)} {w : Walker Shape} {last : List ℕ} {c : Call Shape Rec} {cs : List (Call Shape Rec)}
+        → Reached bs ps w last → Run judge full most wrong ps w last (c ∷ cs)
+        → (qs : List (List ℕ)) × Called bs c qs × Run judge full most wrong qs (outcomeOf c .walker) (outcomeOf c .hold) cs
+    one-call (reached-open base f t h o) (feeds {p = p} {ps = ps} {w = w} {last = last} {hold = hold} {o = x} l q r) =
+        (after (x .answer) (x .count) p ps, called-open w f t h (rw q (feed-step judge full most wrong sh log laws within right short base _ p ps w last hold o l)), r)
+    one-call (reached-open base f t h o) (closes {w = w} {last = last} {hold = hold} l q r) =
+        ([], called-open w f t h (rw q (close-step judge full most wrong sh log laws within right short base _ w last hold o l)), r)
+    one-call (reached-shut e t f k) (feeds {p = p} {w = w} {hold = hold} l q r) =
+        (_, called-shut w e t f k (q ∙ feed-kept judge full most wrong w hold (k .ranged hold (l .size)) p e (k .keeps)), r)
+    one-call (reached-shut e t f k) (closes {w = w} {hold = hold} l q r) =
+        (_, called-shut w e t f k (q ∙ close-kept judge full most wrong w hold (k .ranged hold (l .size)) e (k .keeps)), r)
+
+    -- the state after the first calls of what is left of a run
+    reach : {ps : List (List ℕ)} {w : Walker Shape} {last : List ℕ} (ds bs cs : List (Call Shape Rec)) → Reached ds ps w last
+        → Run judge full most wrong ps w last (bs ++ cs)
+        → (qs : List (List ℕ)) × (v : Walker Shape) × (hold : List ℕ) × Reached (ds ++ bs) qs v hold × Run judge full most wrong qs v hold cs
+    reach {ps} {w} {last} ds [] cs s r = (ps, w, last, rw (append-nil ds) s, r)
+    reach ds (b ∷ bs) cs s r =
+        let (qs, c, r′) = one-call s r in
+        let (os, v, hold, t, z) = reach (ds ++ (b ∷ [])) bs cs (called-reached c) r′ in
+        (os, v, hold, rw (append-assoc ds (b ∷ []) bs) at t, z)
+
+    -- ---- from a fresh walker
+
+    module _ (ps : List (List ℕ)) (last : List ℕ) (all : join ps ≡ log) (ok : wrong sh ≡ false) where
+      -- A fresh walker is open, with nothing held and no records given.
+      pub fresh-open : Open judge full most wrong sh log 0 [] ps (fresh sh) last
+      fresh-open =
+          let rest : (k : ℕ) → walkTo judge sh log (0 + k) ≡ adds [] (walk judge sh 0 (partOf log 0 k)) = λ k. rw (zero-add k) in
+          record {
+            awake = refl;
+            fine = ok;
+            place = refl;
+            reach = omega arith;
+            todo = sym all;
+            bytes = refl;
+            waits = laws sh 0 .opens;
+            rest = rest;
+            sofar = λ m h.
+                let e : m ≡ 0 + 0 = omega arith in
+                rw e (rest-before judge full most wrong sh log laws within right short sh 0 0 [] (rest 0) (laws sh 0 .opens));
+          }
+
+      -- The state after the first calls of a run is reached.
+      pub after-calls : (bs cs : List (Call Shape Rec)) → Run judge full most wrong ps (fresh sh) last (bs ++ cs)
+          → (qs : List (List ℕ)) × (v : Walker Shape) × (hold : List ℕ) × Reached bs qs v hold × Run judge full most wrong qs v hold cs
+      after-calls bs cs r = reach [] bs cs (reached-open 0 refl refl refl fresh-open) r
+
+      -- So any call of a run is made in such a state; and the rest of the run.
+      pub call-at : (bs : List (Call Shape Rec)) (c : Call Shape Rec) (cs : List (Call Shape Rec))
+          → Run judge full most wrong ps (fresh sh) last (bs ++ (c ∷ cs))
+          → (qs : List (List ℕ)) × Called bs c qs × Run judge full most wrong qs (outcomeOf c .walker) (outcomeOf c .hold) cs
+      call-at bs c cs r = let (qs, v, hold, s, z) = after-calls bs (c ∷ cs) r in one-call s z

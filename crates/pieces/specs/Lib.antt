@@ -1,0 +1,8 @@
+-- In the order in which they are read.
+pub mod Verdict
+pub mod Plan
+pub mod Walk
+pub mod Slots
+pub mod Taken
+pub mod Feed
+pub mod Run
