@@ -3,12 +3,13 @@
 --   classes       the class of each byte value, in runs
 --   classOf b     the class of the byte b
 --   classesFrom   the classes of the bytes from a place on
---   classRows     Unicode's rows, with the classes of each range in the place of its bytes
+--   classRows     Unicode's rows, with the classes of each range's ends in the place of the ends
 -- The rule that ties a class to Unicode's ranges is `class-rule` of proofs/ClassLaws.antt. Assumes nothing.
 use Prim.Native.Nat.{ℕ}
 use mathlib.Core.List.{List, [], _∷_, _++_, map}
 use lib.ListN.{getD, drop, replicate}
-use Rattle.text.specs.Rows.{_··_, Row}
+use Rattle.text.specs.Rows.{Range, _··_, Row}
+use Rattle.text.specs.Unicode.{utf8Rows}
 
 abbrev pub classes : List ℕ
 classes =
@@ -33,15 +34,9 @@ classOf b = getD classes b 0
 unfoldable pub classesFrom : List ℕ → ℕ → List ℕ
 classesFrom s at = map classOf (drop at s)
 
+-- a range of bytes, by the classes of its first and its last
+abbrev pub classRange : Range → Range
+classRange (low ·· high) = getD classes low 0 ·· getD classes high 0
+
 abbrev pub classRows : List Row
-classRows =
-    (0 ·· 0 ∷ []) ∷
-    (4 ·· 4 ∷ 1 ·· 3 ∷ []) ∷
-    (5 ·· 5 ∷ 3 ·· 3 ∷ 1 ·· 3 ∷ []) ∷
-    (6 ·· 6 ∷ 1 ·· 3 ∷ 1 ·· 3 ∷ []) ∷
-    (7 ·· 7 ∷ 1 ·· 2 ∷ 1 ·· 3 ∷ []) ∷
-    (8 ·· 8 ∷ 1 ·· 3 ∷ 1 ·· 3 ∷ []) ∷
-    (9 ·· 9 ∷ 2 ·· 3 ∷ 1 ·· 3 ∷ 1 ·· 3 ∷ []) ∷
-    (10 ·· 10 ∷ 1 ·· 3 ∷ 1 ·· 3 ∷ 1 ·· 3 ∷ []) ∷
-    (11 ·· 11 ∷ 1 ·· 1 ∷ 1 ·· 3 ∷ 1 ·· 3 ∷ []) ∷
-    []
+classRows = map (map classRange) utf8Rows
