@@ -6,7 +6,7 @@
 --   classRows     Unicode's rows, with the classes of each range's ends in the place of the ends
 -- The rule that ties a class to Unicode's ranges is `class-rule` of proofs/ClassLaws.antt. Assumes nothing.
 use Prim.Native.Nat.{ℕ}
-use mathlib.Core.List.{List, [], _∷_, _++_, map}
+use mathlib.Core.List.{List, _++_, map}
 use lib.ListN.{getD, drop, replicate}
 use Rattle.text.specs.Rows.{Range, _··_, Row}
 use Rattle.text.specs.Unicode.{utf8Rows}
