@@ -1,0 +1,4 @@
+-- In the order in which they are read.
+pub mod Whole
+pub mod Met
+pub mod Divides
