@@ -1,0 +1,5 @@
+-- The theorems, and the laws that they rest on.
+pub mod FieldLaws
+pub mod SpeltLaws
+pub mod Judged
+pub mod Explained
