@@ -5,3 +5,4 @@ pub mod RowLaws
 pub mod SequenceLaws
 pub mod Table
 pub mod TextLaws
+pub mod WhyLaws
