@@ -3,3 +3,5 @@ pub mod FieldLaws
 pub mod SpeltLaws
 pub mod Judged
 pub mod Explained
+pub mod ChainLaws
+pub mod Means
