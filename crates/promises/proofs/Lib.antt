@@ -5,3 +5,7 @@ pub mod Judged
 pub mod Explained
 pub mod ChainLaws
 pub mod Means
+pub mod Acceptance
+pub mod Refusals
+pub mod Slots
+pub mod Bench

@@ -2,3 +2,4 @@
 pub mod Whole
 pub mod Met
 pub mod Divides
+pub mod Bench
