@@ -95,9 +95,10 @@ module _ (log : List ℕ) (is : Bytes log) (old : List Slot) (r : Walked) (slots
 pub longest : (log : List ℕ) → Bytes log → (rs : List Slot) (why : Why) (at : ℕ) → Broken log rs why at
     → (rs′ : List Slot) (front rest : List ℕ) (last : Shape) → Begins log rs′ front rest last → (later : List Slot) × (rs ≡ rs′ ++ later)
 longest log is rs why at b rs′ front rest last d =
-    let walked = stops-walked log is 0 (b .front) (b .rest) rs (b .last) (refused why at) (b .begins .whole) (b .begins .chain) (b .refuses) in
-    (walk judgeOf last (length front) rest .records,
-    ap (λ (t : Told Slot). t .records) (sym walked ∙ begun log is 0 front rest rs′ last (d .whole) (d .chain)))
+    let walked = stops-walked log is 0 (b .front) (b .rest) rs (b .last) (refused why at) (b .begins .whole) (b .begins .chain) (b .refuses) in (
+      walk judgeOf last (length front) rest .records,
+      ap (λ (t : Told Slot). t .records) (sym walked ∙ begun log is 0 front rest rs′ last (d .whole) (d .chain)),
+    )
 
 -- Data that are refused are not sound: they hold no contents at all.
 pub unsound-data : (b : Bool) (sh next : Shape) (event : ℕ) (body : List ℕ) (place : ℕ) (why : Why) (at : ℕ) (c : Contents) → Bytes body
