@@ -9,3 +9,5 @@ pub mod Acceptance
 pub mod Refusals
 pub mod Slots
 pub mod Bench
+pub mod Example
+pub mod Idle

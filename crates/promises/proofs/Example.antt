@@ -1,0 +1,59 @@
+-- An agile log that divides: a marker with two pairs, a record with two digests and one byte of data, and a tail of three. Assumes nothing.
+use Prim.Native.Nat.{ℕ}
+use mathlib.Core.Path.{_≡_, refl}
+use mathlib.Core.Bool.{Bool, true, false, cond}
+use mathlib.Core.List.{List, [], _∷_, _++_}
+use lib.Dec.{ltb}
+use lib.ListN.{replicate}
+use borrow.Author.Tests.{ltb-true}
+use Rattle.number.specs.Number.{bytesOf, Bytes}
+use Rattle.number.specs.Range.{spanOf}
+use Rattle.number.proofs.NumberLaws.{bytes-nil, bytes-cons}
+use Rattle.contents.specs.declared.Contents.{Contents}
+use Rattle.contents.proofs.Cases.{computing as dataComputing}
+use Rattle.record.proofs.Cases.{computing as recordComputing}
+use Rattle.pieces.specs.Slots.{into}
+use Rattle.pieces.specs.Walk.{ended, walkF, walk, wholeWalk}
+use Rattle.pieces.proofs.VerdictLaws.{never}
+use Rattle.record.specs.declared.Slot.{Slot}
+use Rattle.walk.specs.Fill.{toldInto}
+use Rattle.promises.specs.Bench.{one, specId, markerOf}
+use Rattle.promises.specs.Divides.{Divides}
+use Rattle.promises.proofs.Means.{told, means}
+
+-- whether each element is a byte
+abbrev small : List ℕ → Bool
+small [] = true
+small (b ∷ bs) = cond (ltb b 256) (small bs) false
+
+-- a list that passes is bytes
+pub small-bytes : (s : List ℕ) → small s ≡ true → Bytes s
+small-bytes [] e = bytes-nil
+small-bytes (b ∷ bs) e = go (ltb b 256) refl e (small-bytes bs)
+  where
+    go : (t : Bool) → ltb b 256 ≡ t → cond t (small bs) false ≡ true → (small bs ≡ true → Bytes bs) → Bytes (b ∷ bs)
+    go true i e rest = bytes-cons b bs (ltb-true b 256 i) (rest e)
+    go false i e rest = never (cc)
+
+abbrev log : List ℕ
+log =
+    one 3 (specId (record { id = 0x0004; size = 20 } ∷ record { id = 0x000B; size = 32 } ∷ []))
+    ++ bytesOf 4 7 ++ bytesOf 4 6 ++ bytesOf 4 2 ++ bytesOf 2 0x0004 ++ replicate 20 1 ++ bytesOf 2 0x000B ++ replicate 32 2 ++ bytesOf 4 1 ++ (5 ∷ [])
+    ++ replicate 3 9
+
+abbrev marker : Slot
+marker = record { start = 0; register = 0; event = 3; place = 8; digests = 1; «data» = spanOf 32 37; contents = markerOf 2 69 }
+
+abbrev second : Slot
+second = record { start = 69; register = 7; event = 6; place = 81; digests = 2; «data» = spanOf 141 1; contents = Contents.Empty }
+
+is-bytes : Bytes log
+unfolding dataComputing
+is-bytes = small-bytes log refl
+
+walked : toldInto 2 log ≡ told (marker ∷ second ∷ []) (ended 142 3)
+unfolding dataComputing recordComputing walkF walk wholeWalk into toldInto
+walked = refl
+
+pub divides : Divides log (marker ∷ second ∷ []) 142 3
+divides = means log is-bytes 2 (marker ∷ second ∷ []) (ended 142 3) .0 walked .2
