@@ -11,3 +11,5 @@ pub mod Slots
 pub mod Bench
 pub mod Example
 pub mod Idle
+pub mod RunLaws
+pub mod Pieces

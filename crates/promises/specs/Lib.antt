@@ -3,3 +3,4 @@ pub mod Whole
 pub mod Met
 pub mod Divides
 pub mod Bench
+pub mod Runs
