@@ -27,14 +27,14 @@ use Rattle.promises.specs.Bench.{one}
 use Rattle.promises.proofs.Means.{told}
 
 -- the listing's log: one record, and a byte over
-abbrev log : List ℕ
+abbrev pub log : List ℕ
 log = one 4 (replicate 4 0) ++ (7 ∷ [])
 
 -- a slot that no record has
 abbrev blank : Slot
 blank = record { start = 7; register = 7; event = 7; place = 7; digests = 7; «data» = spanOf 7 7; contents = Contents.Empty }
 
-abbrev only : Slot
+abbrev pub only : Slot
 only = record { start = 0; register = 0; event = 4; place = 8; digests = 1; «data» = spanOf 32 4; contents = Contents.Separator Separated.Uefi }
 
 log-told : toldInto 1 log ≡ told (only ∷ []) (P.ended 36 1)

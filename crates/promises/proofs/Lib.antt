@@ -13,3 +13,6 @@ pub mod Example
 pub mod Idle
 pub mod RunLaws
 pub mod Pieces
+pub mod ExampleRun
+pub mod IdleFeeds
+pub mod OneOutcome

@@ -1,11 +1,10 @@
--- What a walk over lent slots leaves in them, on acceptance and on every refusal, and that its promise leaves one outcome. `FillSays log old r
--- slots` is the promise: r is what a walk of the log over the slots `old` answers, and `slots` are the slots after it.
+-- What a walk over lent slots leaves in them, on acceptance and on every refusal. `FillSays log old r slots` is the promise of the
+-- code: r is what a walk of the log over the slots `old` answers, and `slots` are the slots after it.
 --   slots-filled    the first slots hold the first records of the log
 --   slots-kept      the others keep their values
---   fill-one, fill-some   one answer and one row of slots meet the promise, and no others
 -- Assumes nothing.
 use Prim.Native.Nat.{ℕ, _≤_}
-use mathlib.Core.Path.{_≡_, refl, sym, ap, _∙_}
+use mathlib.Core.Path.{_≡_, sym, ap, _∙_}
 use mathlib.Core.List.{List}
 use native.Mathlib.Omega.{arith}
 use lib.ListN.{length, take, drop, length-append, length-take, length-drop}
@@ -17,7 +16,7 @@ use Rattle.pieces.proofs.SlotLaws.{fit-records}
 use Rattle.record.specs.declared.Slot.{Slot}
 use Rattle.record.specs.Record.{judgeOf}
 use Rattle.walk.specs.declared.Walked.{Walked}
-use Rattle.walk.specs.Fill.{toldInto, walkedBy, slotsBy, FillSays}
+use Rattle.walk.specs.Fill.{toldInto, FillSays}
 use Rattle.walk.specs.Turn.{openingShape}
 
 -- the records of the whole log, which are none where it is over the limit
@@ -51,12 +50,3 @@ module _ (log : List ℕ) (old : List Slot) (r : Walked) (slots : List Slot) (sa
     filled-within,
     ap length (says .1) ∙ omega (arith, length-append (t .records) (drop (length (t .records)) old), length-drop (length (t .records)) old, count, filled-within),
   )
-
--- One answer and one row of slots meet the promise,
-pub fill-one : (log : List ℕ) (old : List Slot) (r r′ : Walked) (slots slots′ : List Slot) → FillSays log old r slots → FillSays log old r′ slots′
-    → (r ≡ r′) × (slots ≡ slots′)
-fill-one log old r r′ slots slots′ a b = (a .0 ∙ sym (b .0), a .1 ∙ sym (b .1))
-
--- and there always are such.
-pub fill-some : (log : List ℕ) (old : List Slot) → FillSays log old (walkedBy (toldInto (length old) log)) (slotsBy (toldInto (length old) log) old)
-fill-some log old = (refl, refl)

@@ -1,0 +1,36 @@
+-- One outcome: of the promise of each entry point at most one answer and one state of every lent buffer and walker meet it, and one does.
+--   fill-one, fill-some     a walk over lent slots
+--   feed-one, feed-some     a feed, by value or where the walker lies
+--   close-one, close-some   a close, likewise; it has the hold to read only
+-- Assumes nothing.
+use Prim.Native.Nat.{ℕ}
+use mathlib.Core.Path.{_≡_, refl, sym, _∙_}
+use mathlib.Core.List.{List}
+use lib.ListN.{length}
+use Rattle.record.specs.declared.Slot.{Slot}
+use Rattle.walk.specs.declared.Walked.{Walked}
+use Rattle.walk.specs.Fill.{toldInto, walkedBy, slotsBy, FillSays}
+use Rattle.walker.specs.declared.Reply.{Reply}
+use Rattle.walker.specs.declared.Walker.{Walker}
+use Rattle.walker.specs.Walker.{replyBy, walkerBy, feedTo, closeTo, FeedSays, CloseSays}
+
+pub fill-one : (log : List ℕ) (old : List Slot) (r r′ : Walked) (slots slots′ : List Slot) → FillSays log old r slots → FillSays log old r′ slots′
+    → (r ≡ r′) × (slots ≡ slots′)
+fill-one log old r r′ slots slots′ a b = (a .0 ∙ sym (b .0), a .1 ∙ sym (b .1))
+
+pub fill-some : (log : List ℕ) (old : List Slot) → FillSays log old (walkedBy (toldInto (length old) log)) (slotsBy (toldInto (length old) log) old)
+fill-some log old = (refl, refl)
+
+pub feed-one : (w : Walker) (hold piece : List ℕ) (r r′ : Reply) (v v′ : Walker) (h h′ : List ℕ) → FeedSays w hold piece r v h → FeedSays w hold piece r′ v′ h′
+    → (r ≡ r′) × (v ≡ v′) × (h ≡ h′)
+feed-one w hold piece r r′ v v′ h h′ a b = (a .0 ∙ sym (b .0), a .1 ∙ sym (b .1), a .2 ∙ sym (b .2))
+
+pub feed-some : (w : Walker) (hold piece : List ℕ)
+    → FeedSays w hold piece (replyBy (feedTo w hold piece)) (walkerBy (feedTo w hold piece .walker)) (feedTo w hold piece .hold)
+feed-some w hold piece = (refl, refl, refl)
+
+pub close-one : (w : Walker) (hold : List ℕ) (r r′ : Reply) (v v′ : Walker) → CloseSays w hold r v → CloseSays w hold r′ v′ → (r ≡ r′) × (v ≡ v′)
+close-one w hold r r′ v v′ a b = (a .0 ∙ sym (b .0), a .1 ∙ sym (b .1))
+
+pub close-some : (w : Walker) (hold : List ℕ) → CloseSays w hold (replyBy (closeTo w hold)) (walkerBy (closeTo w hold .walker))
+close-some w hold = (refl, refl)
