@@ -6,13 +6,12 @@
 --   only-division     two divisions of one log are the same
 -- Assumes nothing.
 use Prim.Native.Nat.{ℕ, _≤_}
-use mathlib.Core.Path.{_≡_, refl, sym, ap, _∙_}
+use mathlib.Core.Path.{_≡_, sym, ap, _∙_}
 use mathlib.Core.List.{List}
 use mathlib.Core.Logic.{_↔_}
 use lib.ListN.{length, take}
 use lib.Seq.{take-append-seam}
 use Rattle.number.specs.Number.{Bytes}
-use Rattle.refusal.specs.declared.Why.{Why}
 use Rattle.refusal.specs.Limits.{logMost}
 use Rattle.refusal.specs.Tests.{refusalOf}
 use Rattle.pieces.specs.Walk.{ended, refused, Told, walk}

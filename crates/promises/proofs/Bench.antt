@@ -1,8 +1,5 @@
 -- Document 01's starred logs have the outcomes that it gives them (specs/Bench.antt): one list, one claim, by computation. Assumes nothing.
 use mathlib.Core.Path.{refl}
-use Rattle.number.specs.Number.{leOf, bytesOf, numberAt}
-use Rattle.spec_id.specs.Sizes.{known, lastSize, sizeOf}
-use Rattle.spec_id.specs.Sound.{pairBytes}
 use Rattle.contents.proofs.Cases.{computing as dataComputing}
 use Rattle.record.proofs.Cases.{computing as recordComputing}
 use Rattle.pieces.specs.Walk.{walkF, walk, wholeWalk}

@@ -1,11 +1,10 @@
 -- A run of three calls, over any two holds of full size: an empty piece over the one; four zero bytes over the other, whose bytes may all
 -- differ, since none is held yet; and the close, which refuses with 2 at 4. So the premise of proofs/Pieces.antt is met. Assumes nothing.
 use Prim.Native.Nat.{ℕ, _≤_}
-use mathlib.Core.Path.{_≡_, refl, sym, ap, _∙_}
+use mathlib.Core.Path.{_≡_, refl, sym, ap}
 use mathlib.Core.List.{List, [], _∷_}
-use mathlib.Core.Option.{none, some}
 use native.Mathlib.Omega.{arith}
-use lib.ListN.{length, take, drop, length-drop}
+use lib.ListN.{length, drop, length-drop}
 use Rattle.refusal.specs.declared.Why.{Why}
 use Rattle.refusal.specs.Limits.{logMost, holdFull}
 use Rattle.refusal.specs.Tests.{refusalOf}
@@ -13,11 +12,8 @@ use Rattle.contents.proofs.Cases.{computing as dataComputing}
 use Rattle.record.proofs.Cases.{computing as recordComputing}
 use Rattle.pieces.specs.Walk.{refused}
 use Rattle.pieces.specs.Taken.{taken}
-use Rattle.pieces.specs.Feed.{stops, wants, Outcome, fresh, start}
-use Rattle.pieces.specs.Feed as F
+use Rattle.pieces.specs.Feed.{stops, wants, fresh}
 use Rattle.pieces.proofs.FeedLaws.{InRange, feed-passed, close-passed}
-use Rattle.record.specs.declared.Shape.{Shape}
-use Rattle.record.specs.declared.Slot.{Slot}
 use Rattle.record.specs.Record.{judgeOf}
 use Rattle.walk.specs.Turn.{openingShape}
 use Rattle.walker.specs.declared.Answer.{Answer}

@@ -7,10 +7,9 @@
 --   pieces-run        and however a log is cut there is a run that comes to a stop
 -- The calls may be of the forms by value or of those where the walker lies. Assumes nothing.
 use Prim.Native.Nat.{ℕ, _≤_}
-use mathlib.Core.Path.{_≡_, refl, sym, ap, _∙_}
-use mathlib.Core.Bool.{Bool, true, false}
-use mathlib.Core.List.{List, [], _∷_, _++_}
-use native.Mathlib.Omega.{arith}
+use mathlib.Core.Path.{_≡_, refl, sym, _∙_}
+use mathlib.Core.Bool.{true, false}
+use mathlib.Core.List.{List, _∷_, _++_}
 use lib.ListN.{length}
 use borrow.Author.Tests.{le-ltb, ltb-false}
 use Rattle.refusal.specs.Limits.{logMost, pairsMost, holdFull}
@@ -32,7 +31,7 @@ use Rattle.walk.specs.Turn.{openingShape}
 use Rattle.walker.specs.declared.Reply.{Reply}
 use Rattle.walker.specs.declared.Walker.{Walker}
 use Rattle.walker.specs.Walker.{walkerOf, freshWalker, wrong, FeedSays, CloseSays}
-use Rattle.promises.specs.Runs.{Call, Run, answerOf, outcomeOf, callOf, callsOf}
+use Rattle.promises.specs.Runs.{Call, Run, outcomeOf, callOf, callsOf}
 use Rattle.promises.proofs.RunLaws.{run-of, run-by, callsOf-append, callsBy, stopped-by, feed-outcome, close-outcome}
 
 -- what follows a sound record counts no more pairs than the table holds

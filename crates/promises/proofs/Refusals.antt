@@ -7,7 +7,7 @@
 --   never-of-feeding  13 and 14 are never answers of a walk
 -- Assumes nothing.
 use Prim.Native.Nat.{ℕ, _≤_, _<_}
-use mathlib.Core.Path.{_≡_, refl, sym, ap, _∙_}
+use mathlib.Core.Path.{_≡_, sym, ap, _∙_}
 use mathlib.Core.Bool.{Bool, true, false}
 use mathlib.Core.List.{List, [], _++_}
 use mathlib.Core.Logic.{_↔_}
@@ -30,11 +30,10 @@ use Rattle.record.specs.Record.{judgeOf}
 use Rattle.walk.specs.declared.Ending.{Ending}
 use Rattle.walk.specs.declared.Walked.{Walked}
 use Rattle.walk.specs.Fill.{walkedOf, FillSays}
-use Rattle.walk.specs.Turn.{openingShape}
 use Rattle.promises.specs.Whole.{ContainsAs}
 use Rattle.promises.specs.Met.{judgedOf}
-use Rattle.promises.specs.Divides.{Begins, Broken, Crowded, MeansBroken, MeansRefused}
-use Rattle.promises.proofs.Means.{told, begun, stops-walked}
+use Rattle.promises.specs.Divides.{Begins, Broken, Crowded}
+use Rattle.promises.proofs.Means.{begun, stops-walked}
 use Rattle.promises.proofs.Acceptance.{filled}
 
 module _ (log : List ℕ) (is : Bytes log) (old : List Slot) (r : Walked) (slots : List Slot) (says : FillSays log old r slots) (rs : List Slot) (at : ℕ) where

@@ -17,7 +17,6 @@ use Rattle.pieces.proofs.FeedLaws.{close-still}
 use Rattle.record.specs.declared.Shape.{Shape}
 use Rattle.record.specs.declared.Slot.{Slot}
 use Rattle.record.specs.Record.{judgeOf}
-use Rattle.record.proofs.RecordLaws.{record-steady, record-within}
 use Rattle.walker.specs.declared.Answer.{Answer}
 use Rattle.walker.specs.declared.Reply.{Reply}
 use Rattle.walker.specs.declared.Walker.{Walker}

@@ -4,8 +4,6 @@ use Rattle.text.specs.Classes.{classOf}
 use borrow.Author.Needs.{needs}
 use Rattle.text.proofs.utf8.class_of.Statement.{statement}
 use Rattle.text.proofs.utf8.class_of.Tie as tie
-use Rattle.text.proofs.utf8.class_of.Reads as reads
-use Rattle.text.proofs.utf8.class_of.Lts as lts
 
 array-read-result : tie.Need-array-read-result
 array-read-result c = search needs
