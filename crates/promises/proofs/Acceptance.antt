@@ -1,6 +1,6 @@
 -- Demand 2: a log is accepted exactly when it is well formed, and its division is the only one.
--- `FillSays log old r slots` is the promise of the code (`fill` and `fill_table` of `walk`): r is what a walk of the log over the slots `old`
--- answers, and `slots` are the slots after it. `Bytes log` says that the log is bytes, as every slice of u8 is.
+-- `FillSays log old r slots` is the promise of the code (`fill` of `walk`, and `fill_table` of the first slots of its table): r is what a walk
+-- of the log over the slots `old` answers, and `slots` are the slots after it. `Bytes log` says that the log is bytes, as every slice of u8 is.
 --   filled            what r and the slots say of the log, whatever the ending
 --   accepted          acceptance, for every log and any number of slots
 --   only-division     two divisions of one log are the same
