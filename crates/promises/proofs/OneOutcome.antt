@@ -1,18 +1,21 @@
 -- One outcome: of the promise of each entry point at most one answer and one state of every lent buffer and walker meet it, and one does.
 --   fill-one, fill-some     a walk over lent slots
+--   table-one, table-some   a walk over the first slots of a table
 --   feed-one, feed-some     a feed, by value or where the walker lies
 --   close-one, close-some   a close, likewise; it has the hold to read only
 -- Assumes nothing.
 use Prim.Native.Nat.{ℕ}
-use mathlib.Core.Path.{_≡_, refl, sym, _∙_}
-use mathlib.Core.List.{List}
-use lib.ListN.{length}
+use mathlib.Core.Path.{_≡_, refl, sym, ap, _∙_}
+use mathlib.Core.List.{List, _++_}
+use lib.ListN.{length, take, drop, take-append-drop}
 use Rattle.record.specs.declared.Slot.{Slot}
 use Rattle.walk.specs.declared.Walked.{Walked}
-use Rattle.walk.specs.Fill.{toldInto, walkedBy, slotsBy, FillSays}
+use Rattle.walk.specs.Fill.{toldInto, walkedBy, slotsBy, FillSays, TableSays}
+use Rattle.walk.proofs.FillLaws.{table-says}
 use Rattle.walker.specs.declared.Reply.{Reply}
 use Rattle.walker.specs.declared.Walker.{Walker}
 use Rattle.walker.specs.Walker.{replyBy, walkerBy, feedTo, closeTo, FeedSays, CloseSays}
+use Rattle.promises.proofs.Slots.{slots-kept}
 
 pub fill-one : (log : List ℕ) (old : List Slot) (r r′ : Walked) (slots slots′ : List Slot) → FillSays log old r slots → FillSays log old r′ slots′
     → (r ≡ r′) × (slots ≡ slots′)
@@ -20,6 +23,18 @@ fill-one log old r r′ slots slots′ a b = (a .0 ∙ sym (b .0), a .1 ∙ sym 
 
 pub fill-some : (log : List ℕ) (old : List Slot) → FillSays log old (walkedBy (toldInto (length old) log)) (slotsBy (toldInto (length old) log) old)
 fill-some log old = (refl, refl)
+
+pub table-one : (log : List ℕ) (old : List Slot) (k : ℕ) (r r′ : Walked) (slots slots′ : List Slot) → TableSays log old k r slots → TableSays log old k r′ slots′
+    → (r ≡ r′) × (slots ≡ slots′)
+table-one log old k r r′ slots slots′ (a, d) (b, e) =
+    let (same, front) = fill-one log (take k old) r r′ (take k slots) (take k slots′) a b in
+    (same, sym (take-append-drop k slots) ∙ ap (λ l. l ++ drop k slots) front ∙ ap (λ l. take k slots′ ++ l) (d ∙ sym e) ∙ take-append-drop k slots′)
+
+pub table-some : (log : List ℕ) (old : List Slot) (k : ℕ) → (r : Walked) × (slots : List Slot) × TableSays log old k r slots
+table-some log old k =
+    let t = toldInto (length (take k old)) log in
+    let f = fill-some log (take k old) in
+    (walkedBy t, slotsBy t (take k old) ++ drop k old, table-says log old k _ _ (slots-kept log (take k old) _ _ f .2) f)
 
 pub feed-one : (w : Walker) (hold piece : List ℕ) (r r′ : Reply) (v v′ : Walker) (h h′ : List ℕ) → FeedSays w hold piece r v h → FeedSays w hold piece r′ v′ h′
     → (r ≡ r′) × (v ≡ v′) × (h ≡ h′)
