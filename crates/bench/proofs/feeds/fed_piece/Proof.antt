@@ -1,14 +1,9 @@
+-- `bench::feeds::fed_piece` lends the first bytes of the hold, as many as `least` gives, which are there. Assumes nothing.
 use mathlib.Core.Path.{sym}
 use lib.Seq.{length-take-le}
 use borrow.Author.Needs.{needs}
 use Rattle.bench.proofs.feeds.fed_piece.Statement.{statement}
 use Rattle.bench.proofs.feeds.fed_piece.Tie as tie
-use Rattle.bench.proofs.feeds.fed_piece.Reads as reads
-use Rattle.bench.proofs.feeds.fed_piece.Lts as lts
-use Rattle.bench.proofs.feeds.fed_by.Reads as fed-by-reads
-use Rattle.bench.proofs.feeds.least.Reads as least-reads
-use Rattle.bench.proofs.replies.lines.Reads as lines-reads
-use Rattle.bench.proofs.state.with_walker.Reads as with-walker-reads
 
 least-requires : tie.Need-least-requires
 least-requires c κs = search needs

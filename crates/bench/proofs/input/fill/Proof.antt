@@ -1,11 +1,9 @@
+-- `bench::input::fill` lends the first n bytes, which are there. Assumes nothing.
 use mathlib.Core.Path.{sym}
 use lib.Seq.{length-take-le}
 use borrow.Author.Needs.{needs}
 use Rattle.bench.proofs.input.fill.Statement.{statement}
 use Rattle.bench.proofs.input.fill.Tie as tie
-use Rattle.bench.proofs.input.fill.Reads as reads
-use Rattle.bench.proofs.input.fill.Lts as lts
-use Rattle.io.proofs.read_full.Reads as read-full-reads
 
 returns : tie.Need-returns
 returns c = search needs

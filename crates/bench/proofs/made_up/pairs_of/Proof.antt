@@ -1,10 +1,9 @@
+-- `bench::made_up::pairs_of` is safe and ends. Nothing has to hold from turn to turn; the measure is the pairs left.
+-- Assumes nothing.
 use Prim.Native.Nat.{_-_}
 use borrow.Author.Needs.{needs}
 use Rattle.bench.proofs.made_up.pairs_of.Statement.{statement}
 use Rattle.bench.proofs.made_up.pairs_of.Tie as tie
-use Rattle.bench.proofs.made_up.pairs_of.Reads as reads
-use Rattle.bench.proofs.made_up.pairs_of.Lts as lts
-use Rattle.bench.proofs.made_up.pair_at.Reads as pair-at-reads
 
 abbrev Inv-loop : tie.InvT-loop
 Inv-loop b table₀ i₀ table i = Unit {0}

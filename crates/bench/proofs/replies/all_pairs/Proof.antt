@@ -1,10 +1,9 @@
+-- `bench::replies::all_pairs` is safe and ends. Nothing has to hold from turn to turn; the measure is the pairs left.
+-- Assumes nothing.
 use Prim.Native.Nat.{_-_}
 use borrow.Author.Needs.{needs}
 use Rattle.bench.proofs.replies.all_pairs.Statement.{statement}
 use Rattle.bench.proofs.replies.all_pairs.Tie as tie
-use Rattle.bench.proofs.replies.all_pairs.Reads as reads
-use Rattle.bench.proofs.replies.all_pairs.Lts as lts
-use Rattle.bench.proofs.replies.pair.Reads as pair-reads
 
 abbrev Inv-loop : tie.InvT-loop
 Inv-loop table i₀ i = Unit {0}

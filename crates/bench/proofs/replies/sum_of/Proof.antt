@@ -1,12 +1,10 @@
+-- `bench::replies::sum_of` is safe and ends. Nothing has to hold from turn to turn; the measure is the bytes left.
+-- Assumes nothing.
 use Prim.Native.Nat.{_-_}
 use lib.ListN.{length}
 use borrow.Author.Needs.{needs}
 use Rattle.bench.proofs.replies.sum_of.Statement.{statement}
 use Rattle.bench.proofs.replies.sum_of.Tie as tie
-use Rattle.bench.proofs.replies.sum_of.Reads as reads
-use Rattle.bench.proofs.replies.sum_of.Lts as lts
-use Rattle.bench.proofs.replies.weighed.Reads as weighed-reads
-use Rattle.std.proofs.num.wrapping_add_u32.Reads as wrapping-add-u32-reads
 
 abbrev Inv-loop : tie.InvT-loop
 Inv-loop hold sum₀ i₀ sum i = Unit {0}

@@ -1,11 +1,10 @@
+-- `bench::replies::weighed`: a byte times at most 65,536 fits. Assumes nothing.
 use Prim.Native.Nat.{_+_, _%_, _≤_}
 use native.Mathlib.Nat.{mul-le-mul}
 use native.Mathlib.Omega.{arith}
 use borrow.Author.Needs.{needs}
 use Rattle.bench.proofs.replies.weighed.Statement.{statement}
 use Rattle.bench.proofs.replies.weighed.Tie as tie
-use Rattle.bench.proofs.replies.weighed.Reads as reads
-use Rattle.bench.proofs.replies.weighed.Lts as lts
 
 add-n : tie.Need-add-n
 add-n c = search needs

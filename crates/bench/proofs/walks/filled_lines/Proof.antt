@@ -1,10 +1,9 @@
+-- `bench::walks::filled_lines` is safe and ends. Nothing has to hold from turn to turn; the measure is the slots left.
+-- Assumes nothing.
 use Prim.Native.Nat.{_-_}
 use borrow.Author.Needs.{needs}
 use Rattle.bench.proofs.walks.filled_lines.Statement.{statement}
 use Rattle.bench.proofs.walks.filled_lines.Tie as tie
-use Rattle.bench.proofs.walks.filled_lines.Reads as reads
-use Rattle.bench.proofs.walks.filled_lines.Lts as lts
-use Rattle.bench.proofs.slots.line.Reads as line-reads
 
 abbrev Inv-loop : tie.InvT-loop
 Inv-loop filled table i₀ i = Unit {0}

@@ -1,11 +1,9 @@
+-- `bench::walks::kept_of` is safe and ends. The invariant: no more are counted than were looked at. The measure is the slots
+-- left. Assumes nothing.
 use Prim.Native.Nat.{_-_, _≤_}
 use borrow.Author.Needs.{needs}
 use Rattle.bench.proofs.walks.kept_of.Statement.{statement}
 use Rattle.bench.proofs.walks.kept_of.Tie as tie
-use Rattle.bench.proofs.walks.kept_of.Reads as reads
-use Rattle.bench.proofs.walks.kept_of.Lts as lts
-use Rattle.bench.proofs.walks.is_kept.Reads as is-kept-reads
-use Rattle.bench.proofs.walks.one_if.Reads as one-if-reads
 
 abbrev Inv-loop : tie.InvT-loop
 Inv-loop filled lent table kept₀ i₀ kept i = kept ≤ i
