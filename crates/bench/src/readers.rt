@@ -1,0 +1,60 @@
+// The commands P, G, U and X: a node of a path, an entry of a GPT, the two checks of text.
+use crate::input;
+use crate::input::Field;
+use crate::input::Given;
+use crate::items;
+use crate::print;
+use number::Span;
+use refusal::Refusal;
+use text::Text;
+
+pub fn node(data: &mut [u8]) -> Given {
+    let Field::Is(index) = input::next_field() else {
+        return Given::Bad;
+    };
+    let Given::Bytes(n) = input::counted(data) else {
+        return Given::Bad;
+    };
+    let path = number::part(data, Span { at: 0, len: n });
+    items::node_line(path::read(path, index as usize));
+    Given::Bytes(n)
+}
+
+pub fn entry(data: &mut [u8]) -> Given {
+    let Field::Is(index) = input::next_field() else {
+        return Given::Bad;
+    };
+    let Given::Bytes(n) = input::counted(data) else {
+        return Given::Bad;
+    };
+    let table = number::part(data, Span { at: 0, len: n });
+    items::entry_line(gpt::read(table, index as usize));
+    Given::Bytes(n)
+}
+
+// A text starts where its bytes do.
+fn text_line(t: Text) {
+    match t {
+        Text::Length(n) => {
+            print::range(b"text ", Span { at: 0, len: n });
+            print::say(b"\n");
+        }
+        Text::Refused(why) => print::refused(Refusal { why, at: 0 }),
+    }
+}
+
+pub fn utf8(data: &mut [u8]) -> Given {
+    let Given::Bytes(n) = input::counted(data) else {
+        return Given::Bad;
+    };
+    text_line(text::utf8::check(number::part(data, Span { at: 0, len: n })));
+    Given::Bytes(n)
+}
+
+pub fn wide(data: &mut [u8]) -> Given {
+    let Given::Bytes(n) = input::counted(data) else {
+        return Given::Bad;
+    };
+    text_line(text::wide::check(number::part(data, Span { at: 0, len: n })));
+    Given::Bytes(n)
+}

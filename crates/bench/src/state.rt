@@ -1,0 +1,67 @@
+// What a run carries from command to command.
+use crate::input::Given;
+use crate::print;
+use refusal::HOLD_FULL;
+use walker::Walker;
+
+pub struct State {
+    // Where the next command starts.
+    pub at: u64,
+    pub walker: Walker,
+    // The hold is so many bytes of the lent buffer, from its front.
+    pub size: usize,
+    // There may be a further command.
+    pub open: bool,
+}
+
+pub fn start() -> State {
+    let walker = walker::fresh();
+    State {
+        at: 0,
+        walker,
+        size: HOLD_FULL,
+        open: true,
+    }
+}
+
+// The next command starts so many bytes further.
+pub fn past(s: State, n: u64) -> State {
+    let mut next = s;
+    next.at = std::num::wrapping_add_u64(s.at, n);
+    next
+}
+
+pub fn stopped(s: State) -> State {
+    let mut next = s;
+    next.open = false;
+    next
+}
+
+pub fn bad(s: State) -> State {
+    print::number(b"bad command at ", s.at);
+    print::say(b"\n");
+    stopped(s)
+}
+
+// After a command whose letter and fields have so many bytes, and the bytes behind them.
+pub fn after(s: State, fields: u64, given: Given) -> State {
+    match given {
+        Given::Bytes(n) => past(past(s, fields), n as u64),
+        Given::Bad => bad(s),
+    }
+}
+
+pub fn with_walker(s: State, walker: Walker) -> State {
+    State {
+        at: s.at,
+        walker,
+        size: s.size,
+        open: s.open,
+    }
+}
+
+pub fn with_size(s: State, size: usize) -> State {
+    let mut next = s;
+    next.size = size;
+    next
+}
