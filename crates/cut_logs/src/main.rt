@@ -67,7 +67,10 @@ fn line(index: usize, bytes: usize, t: Tally) {
     verdict(t);
 }
 
-fn last_line(logs: usize, t: Totals) {
+fn last_line(task: Task, logs: usize, t: Totals) {
+    if task.measures {
+        return;
+    }
     number(b"logs ", logs);
     number(b" bytes ", t.bytes);
     number(b" records ", t.records);
@@ -167,7 +170,7 @@ fn logs(buf: &mut [u8], hold: &mut [u8], task: Task) {
                 let log = number::part(buf, Span { at: 0, len });
                 t = one_log(log, hold, task, i, t);
             }
-            Input::End => return last_line(i, t),
+            Input::End => return last_line(task, i, t),
             Input::Short => return stopped(b"standard input ends inside log ", i),
             Input::Long => return stopped(b"over 65536 bytes: log ", i),
         }
