@@ -13,7 +13,6 @@ mod lines;
 mod room;
 mod walk;
 
-use std::cell::RefCell;
 use std::fs::File;
 use std::io::{Read, Write};
 use std::os::fd::AsFd;
@@ -27,13 +26,11 @@ static ROOM: room::Room = room::Room;
 
 const _: () = assert!(usize::BITS == 64, "the oracle is of 64 bits");
 
-thread_local! {
-    /// Where the last panic was: file and line.
-    pub static PANIC: RefCell<String> = RefCell::default();
-}
+/// Where the last panic was: file and line.
+pub static PANIC: Mutex<String> = Mutex::new(String::new());
 
 /// A walk that has had the processor for so long is a loop. The longest that end take a few milliseconds.
-const LONG: Duration = Duration::from_millis(300);
+const LONG: Duration = Duration::from_millis(100);
 
 extern "C" {
     fn clock_gettime(clock: i32, time: *mut [i64; 2]) -> i32;
@@ -111,7 +108,7 @@ fn main() {
     };
     std::panic::set_hook(Box::new(|info| {
         let place = info.location().map(|l| format!("{}:{}", l.file().rsplit('/').next().unwrap(), l.line()));
-        PANIC.with(|p| *p.borrow_mut() = place.unwrap_or_default());
+        *PANIC.lock().unwrap() = place.unwrap_or_default();
     }));
     let state: Shared = Arc::new(Mutex::new(State::default()));
     let walks = state.clone();
@@ -131,7 +128,7 @@ fn main() {
         }
     }
     if worker.join().is_err() {
-        eprintln!("driver: a panic outside the crate, {}", PANIC.with(|p| p.borrow().clone()));
+        eprintln!("driver: a panic outside the crate, {}", PANIC.lock().unwrap());
         std::process::exit(1);
     }
 }

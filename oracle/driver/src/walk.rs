@@ -129,8 +129,7 @@ pub fn walk(log: &[u8], settings: Settings, state: &Shared) -> String {
             (s.record, s.field, s.fields, s.stop) = (s.next, s.next, 0, Stop::No);
         }
         let Ok(said) = catch_unwind(AssertUnwindSafe(|| parser.next())) else {
-            let place = crate::PANIC.with(|p| p.borrow().clone());
-            return format!("{} {place}", state.lock().unwrap().nothing("panic"));
+            return format!("{} {}", state.lock().unwrap().nothing("panic"), crate::PANIC.lock().unwrap());
         };
         let mut s = state.lock().unwrap();
         match said {
@@ -237,7 +236,7 @@ fn place(kind: u32, data: &[u8], k: u32) -> Option<usize> {
 fn node_place(kind: u32, data: &[u8], k: u32) -> Option<usize> {
     let length = |at: usize| lines::number(data, at + 2, 2) as usize;
     let end = 32 + lines::number(data, 24, 8) as usize;
-    let starts: Vec<usize> = std::iter::successors(Some(32), |&at| Some(at + length(at))).take_while(|&at| at < end).collect();
+    let starts: Vec<usize> = std::iter::successors(Some(32), |&at| Some(at + length(at)).filter(|&next| next < end)).collect();
     for at in starts.into_iter().rev() {
         let mut alone = vec![0; 24];
         alone.extend((length(at) as u64).to_le_bytes());
