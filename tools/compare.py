@@ -19,7 +19,7 @@ It prints how many were compared, by kind and by the last line of the Rust, and 
 """
 import argparse
 import collections
-import concurrent.futures
+import itertools
 import multiprocessing
 import os
 import random
@@ -33,7 +33,8 @@ import contents_answers as c
 from contents_answers import u32
 
 SLOTS, TOP = 64, 131072
-FED, READ, LISTED = 60, 12, 100  # one log of so many is fed, read, listed
+FED, READ, LISTED = 60, 12, 125  # one log of so many is fed, read, listed
+CALLS = 200  # of a log that is fed, at most; the rest of it is left
 Said = collections.namedtuple("Said", "kind records last")
 
 
@@ -44,7 +45,7 @@ def run(command, data):
 def ask(driver, logs, *options):
     answers = run([driver, "batch", "--detail", *options], b"".join(u32(len(x)) + x for x in logs)).split("--\n")
     if len(answers) != len(logs) + 1:
-        sys.exit(f"the oracle ended at log {len(answers) - 1}: {logs[len(answers) - 1].hex()}")
+        raise RuntimeError(f"the oracle ended at log {len(answers) - 1}: {logs[len(answers) - 1].hex()}")
     return answers[:-1]
 
 
@@ -181,13 +182,14 @@ def fed(log, one, r):
     cuts = sorted(r.randrange(len(log) + 1) for _ in range(r.choice((0, 1, 3, 6, 12))))
     for a, b in zip([0] + cuts, cuts + [len(log)]):
         piece = w.feed(log[a:b])
-        while piece and len(w.commands) < 200:
+        while piece and len(w.commands) < CALLS:
             piece = w.feed(piece)
         if piece:
-            return b"".join(w.commands), w.lines
-    w.close()
-    w.close()
-    return b"".join(w.commands), w.lines
+            break
+    else:
+        w.close()
+        w.close()
+    return b"".join(w.commands), "\n".join(w.lines + [""])
 
 
 # ---------------------------------------------------------------- reading by index
@@ -216,68 +218,63 @@ def read(log, answer, one):
             for i in (0, 1, (1 << 32) - 1):
                 commands.append((b"G" if group == c.GPT else b"P") + u32(i) + u32(n) + log[d:d + n])
                 lines.append(f"refused {m[1]} at {at - d}")
-    return b"".join(commands), lines
+    return b"".join(commands), "".join(line + "\n" for line in lines)
 
 
 # ---------------------------------------------------------------- a part of a kind
 
-def differences(kind, what, cases, ours):
-    """Cases are (log, lines that ours must be); ours is the bench's whole output."""
-    expected = "".join(text for _, text in cases)
-    if ours == expected:
+def differences(what, command, cases):
+    """Cases are (log, input, lines that ours must be). Where they differ, halves are run again until one log is left; ten are enough."""
+    ours = run(command, b"".join(given for _, given, _ in cases))
+    if ours == "".join(text for _, _, text in cases):
         return []
-    out, at, lines = [], 0, ours.split("\n")
-    for log, text in cases:
-        wanted = text.split("\n")[:-1]
-        got = lines[at:at + len(wanted)]
-        if got != wanted:
-            i = next(i for i in range(len(wanted)) if got[i:i + 1] != wanted[i:i + 1])
-            out.append((len(log), f"{kind}, {what}: must be {wanted[i]!r}, is {' '.join(got[i:i + 1])!r}: {log[:400].hex()}"))
-            break  # the lines after it may be out of step
-        at += len(wanted)
-    return out or [(0, f"{kind}, {what}: more lines than there must be")]
+    if len(cases) > 1:
+        first = differences(what, command, cases[:len(cases) // 2])
+        return first + (differences(what, command, cases[len(cases) // 2:]) if len(first) < 10 else [])
+    [(log, _, text)] = cases
+    for must, line in itertools.zip_longest(text.split("\n"), ours.split("\n"), fillvalue=""):
+        if must != line:
+            return [(len(log), f"{what}, {len(log)} bytes, {log[:400].hex()}: must be {must!r}, is {line!r}")]
 
 
 def part(task):
-    kind, number, folder, driver, bench, listing = task
+    kind, number, folder, *programs = task
     logs, r = compare_logs.make(kind, number, folder), random.Random(f"pieces {kind} {number}")
     counts, found = collections.Counter(), []
     for first in range(0, len(logs), 3000):
-        compare(kind, logs[first:first + 3000], first + number, r, (driver, bench, listing), counts, found)
+        found += compare(kind, logs[first:first + 3000], first + number, r, programs, counts)
     return kind, counts, found
 
 
-def compare(kind, logs, turn, r, programs, counts, found):
+def compare(kind, logs, turn, r, programs, counts):
+    """All these logs by the walk, and some of them in the other ways; `turn` says which."""
     driver, bench, listing = programs
-    commands = b"".join(b"L" + u32(SLOTS) + u32(min(len(x), TOP)) + x[:TOP] for x in logs)
-    with concurrent.futures.ThreadPoolExecutor(2) as pool:
-        ours = pool.submit(run, bench, commands)
-        answers = ask(driver, logs)
-        ours = ours.result()
+    answers = ask(driver, logs)
     says = [said(log, answer) for log, answer in zip(logs, answers)]
     for answer, one in zip(answers, says):
         counts[answer[:-1].rpartition("\n")[2].split(" at ")[0]] += 1
         counts["records"] += len(one.records)
     counts["logs"] += len(logs)
-    found += differences(kind, "walk", [(log, walk_text(one)) for log, one in zip(logs, says)], ours)
+    cases = [(x, b"L" + u32(SLOTS) + u32(min(len(x), TOP)) + x[:TOP], walk_text(one)) for x, one in zip(logs, says)]
+    found = differences(kind + ", walked", bench, cases)
 
-    whole = kind in ("document 01", "limits", "real logs")
-    some = [i for i in range(len(logs)) if (i + turn) % (FED // 6 if whole else FED) == 0 and len(logs[i]) <= 65536]
-    feeds = [fed(logs[i], says[i], r) for i in some]
+    step = {"document 01": 1, "limits": 10, "real logs": 10}.get(kind, FED)
+    some = [i for i in range(turn % step, len(logs), step) if len(logs[i]) <= 65536]
+    cases = [(logs[i], *fed(logs[i], says[i], r)) for i in some]
     counts["fed"] += len(some)
-    counts["calls"] += sum(sum(line.startswith("fed") for line in lines) for _, lines in feeds)
-    texts = ["\n".join(lines + [""]) for _, lines in feeds]
-    found += differences(kind, "fed", list(zip((logs[i] for i in some), texts)), run(bench, b"".join(b for b, _ in feeds)))
+    counts["calls"] += sum(text.count("fed ") for _, _, text in cases)
+    found += differences(kind + ", fed", bench, cases)
 
-    some = [i for i in range(turn % READ, len(logs), READ) if len(logs[i]) <= 65536]
-    reads = [read(logs[i], answer, says[i]) for i, answer in zip(some, ask(driver, [logs[i] for i in some], "--parts"))]
-    texts = ["\n".join(lines + [""]) if lines else "" for _, lines in reads]
-    counts["read"] += sum(len(lines) for _, lines in reads)
-    found += differences(kind, "read", list(zip((logs[i] for i in some), texts)), run(bench, b"".join(b for b, _ in reads)))
+    step = 1 if kind == "document 01" else READ
+    some = [i for i in range(turn % step, len(logs), step) if len(logs[i]) <= 65536]
+    cases = [(logs[i], *read(logs[i], answer, says[i])) for i, answer in zip(some, ask(driver, [logs[i] for i in some], "--parts"))]
+    counts["read"] += sum(text.count("\n") for _, _, text in cases)
+    found += differences(kind + ", read", bench, cases)
 
     for i in range(turn % LISTED, len(logs) if listing else 0, LISTED):
         counts["listed"] += 1
-        found += differences(kind, "listed", [(logs[i], list_text(says[i]))], run(listing, logs[i]))
+        found += differences(kind + ", listed", listing, [(logs[i], logs[i], list_text(says[i]))])
+    return found
 
 
 # ---------------------------------------------------------------- all
@@ -301,9 +298,10 @@ def main():
     tasks = [(kind, i, given.folder, *programs) for kind, n in compare_logs.PARTS.items() for i in range(n) if given.only in (None, kind)]
     counts, found = collections.defaultdict(collections.Counter), []
     with multiprocessing.Pool(2) as pool:
-        for kind, some, more in pool.imap_unordered(part, tasks):
+        for done, (kind, some, more) in enumerate(pool.imap_unordered(part, tasks), 1):
             counts[kind] += some
             found += more
+            print(f"\r{done} of {len(tasks)} parts", end="\n" if done == len(tasks) else "", file=sys.stderr)
     report(counts, found)
 
 
@@ -311,7 +309,8 @@ def report(counts, found):
     columns = ("logs", "records", "fed", "calls", "read", "listed")
     everything = sum(counts.values(), collections.Counter())
     print("| kind | " + " | ".join(columns) + " |")
-    for kind in (*compare_logs.PARTS, "all"):
+    print("|---" * (len(columns) + 1) + "|")
+    for kind in (*(x for x in compare_logs.PARTS if x in counts), "all"):
         row = everything if kind == "all" else counts[kind]
         print("| " + " | ".join([kind, *(f"{row[x]:,}" for x in columns)]) + " |")
     print("last lines of the Rust:", ", ".join(f"{x} {n:,}" for x, n in sorted(everything.items()) if x not in columns))

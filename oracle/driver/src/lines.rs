@@ -183,7 +183,7 @@ pub fn marker(out: &mut String, data: &[u8], parser: &str) {
     for i in 0..pairs {
         sizes.insert(number(data, 28 + 4 * i, 2), number(data, 30 + 4 * i, 2));
     }
-    let crates: std::collections::BTreeMap<u64, u64> = list(told("algo_sizes: {", '}')).chunks(2).map(|p| (p[0], p[1])).collect();
-    let _ = if sizes == crates { write!(out, " pairs {pairs}") } else { write!(out, " pairs ?") };
+    let kept_sizes: std::collections::BTreeMap<u64, u64> = list(told("algo_sizes: {", '}')).chunks(2).map(|p| (p[0], p[1])).collect();
+    let _ = if sizes == kept_sizes { write!(out, " pairs {pairs}") } else { write!(out, " pairs ?") };
     let _ = write!(out, " vendor {}", range(data, data.len() - vendor.len(), &vendor, 32));
 }

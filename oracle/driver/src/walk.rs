@@ -144,7 +144,7 @@ pub fn walk(log: &[u8], settings: Settings, state: &Shared) -> String {
                 }
                 s.agile = true;
                 s.number(settings);
-                head(&mut s, log, settings, lines::number(log, 0, 4), lines::number(log, 4, 4), 1);
+                head(&mut s, settings, lines::number(log, 0, 4), lines::number(log, 4, 4), 1);
                 s.lines.push_str(if settings.detail { &told } else { " marker" });
                 s.lines.push('\n');
             }
@@ -171,7 +171,7 @@ fn marker(data: &[u8], parser: &str) -> String {
 }
 
 /// What every record's line has before its contents.
-fn head(s: &mut State, log: &[u8], settings: Settings, register: u64, kind: u64, digests: usize) {
+fn head(s: &mut State, settings: Settings, register: u64, kind: u64, digests: usize) {
     let (record, field, length) = (s.record, s.field, s.next - s.field);
     let _ = write!(s.lines, "at {record} pcr {register} type {kind}");
     if settings.detail {
@@ -179,13 +179,12 @@ fn head(s: &mut State, log: &[u8], settings: Settings, register: u64, kind: u64,
         let _ = write!(s.lines, " place {place}");
     }
     let _ = write!(s.lines, " digests {digests} data {field}+{length}");
-    assert!(s.next <= log.len());
 }
 
 fn record(s: &mut State, log: &[u8], event: &Event, settings: Settings) {
     assert!(event.data == log[s.field..s.next], "the data are not where they were read");
     s.number(settings);
-    head(s, log, settings, event.pcr_index as u64, u32::from(event.event) as u64, event.digests.len());
+    head(s, settings, event.pcr_index as u64, u32::from(event.event) as u64, event.digests.len());
     let field = s.field;
     let _ = write!(s.lines, " {}", lines::word(&event.parsed_data));
     if settings.detail {
