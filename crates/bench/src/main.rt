@@ -32,8 +32,8 @@ fn command(letter: u8, s: State, data: &mut [u8], hold: &mut [u8]) -> State {
         b'c' => feeds::close(Form::Place, s, hold),
         b'P' => state::after(s, 9, readers::node(data)),
         b'G' => state::after(s, 9, readers::entry(data)),
-        b'U' => state::after(s, 5, readers::utf8(data)),
-        b'X' => state::after(s, 5, readers::wide(data)),
+        b'U' => state::after(s, 5, readers::checked_text(data, false)),
+        b'X' => state::after(s, 5, readers::checked_text(data, true)),
         _ => state::bad(s),
     }
 }

@@ -43,18 +43,18 @@ fn text_line(t: Text) {
     }
 }
 
-pub fn utf8(data: &mut [u8]) -> Given {
-    let Given::Bytes(n) = input::counted(data) else {
-        return Given::Bad;
-    };
-    text_line(text::utf8::check(number::part(data, Span { at: 0, len: n })));
-    Given::Bytes(n)
+// A text of two-byte units, or UTF-8.
+fn text_of(s: &[u8], wide: bool) -> Text {
+    if wide {
+        return text::wide::check(s);
+    }
+    text::utf8::check(s)
 }
 
-pub fn wide(data: &mut [u8]) -> Given {
+pub fn checked_text(data: &mut [u8], wide: bool) -> Given {
     let Given::Bytes(n) = input::counted(data) else {
         return Given::Bad;
     };
-    text_line(text::wide::check(number::part(data, Span { at: 0, len: n })));
+    text_line(text_of(number::part(data, Span { at: 0, len: n }), wide));
     Given::Bytes(n)
 }
