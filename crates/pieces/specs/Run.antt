@@ -1,4 +1,4 @@
--- A run: the calls that a caller makes, one after the other, to feed a list of pieces in order and then close.
+-- A run: the calls that a caller makes, one after the other, to feed a list of pieces in order and then close (document 01, demand 3).
 --   Call            one feed or one close: what was fed, the hold that was lent, and the outcome
 --   Run ps w h cs   from the walker w, with h the hold as the last call left it and ps the pieces still to be fed, the calls cs
 -- What is left of a piece after a record is fed again; a run may stop after any call, and may go on after a refusal or the end.

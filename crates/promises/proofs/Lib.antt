@@ -16,3 +16,4 @@ pub mod Pieces
 pub mod ExampleRun
 pub mod IdleFeeds
 pub mod OneOutcome
+pub mod OwnAnswers

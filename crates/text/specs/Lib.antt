@@ -1,5 +1,6 @@
+-- In the order in which they are read.
 pub mod Rows
 pub mod Unicode
-pub mod Classes
 pub mod Text
+pub mod Classes
 pub mod Sequences
