@@ -282,7 +282,7 @@ def compare(kind, logs, turn, r, programs, counts):
 def oracle(given, folder):
     driver = given or os.path.join("target", "oracle", "driver")
     if not given and not os.path.exists(driver):
-        subprocess.run([os.path.join("oracle", "build.sh"), os.path.join(folder, "docs", "src")], check=True)
+        subprocess.run([os.path.join("oracle", "build.sh"), os.path.join(folder, "docs", "src")], check=True, stdout=sys.stderr)
     return os.path.abspath(driver)
 
 
