@@ -26,9 +26,9 @@ pub record Before {Rec : Type 0} (rs : List Rec) (t : Told Rec) : Type 0 where
   pub early : Early (t .ending)
 
 -- a log that ends inside a field ends early
-closing-early : (base : ℕ) (p : List ℕ) (s : ℕ) → Early (closing base p s)
-closing-early base p zero = an-end
-closing-early base p (suc s) = a-cut
+closing-early : (base n s : ℕ) → Early (closing base n s)
+closing-early base n zero = an-end
+closing-early base n (suc s) = a-cut
 
 module _ {Shape Rec : Type 0} (judge : Judge Shape Rec) (laws : (sh : Shape) (base : ℕ) → Steady (judge sh base)) where
   -- Of bytes that wait the walk gives no record, and an early ending.
@@ -37,6 +37,6 @@ module _ {Shape Rec : Type 0} (judge : Judge Shape Rec) (laws : (sh : Shape) (ba
   walk-waits sh base p d = go (judge sh base p) refl
     where
       go : (v : Verdict Shape Rec) → judge sh base p ≡ v → (walk judge sh base p .records ≡ []) × Early (walk judge sh base p .ending)
-      go (more s e) j = rw (walk-more judge laws sh base p s e j) (refl, closing-early base p s)
+      go (more s e) j = rw (walk-more judge laws sh base p s e j) (refl, closing-early base (length p) s)
       go (sound r n next) j = both (ap decided j) d
       go (bad why at) j = both (ap decided j) d

@@ -329,7 +329,7 @@ module _ {Shape Rec : Type 0} (judge : Judge Shape Rec) (full most : ℕ) (wrong
 
       closing-stops : (s e : ℕ) → judge (w .shape) base y ≡ more s e → Stopping rs w (closed w hold y (more s e))
       closing-stops s e j = record {
-        ending = closing (start w) y s;
+        ending = closing (start w) (length y) s;
         says = refl;
         shut = record {
           keeps = refl;
@@ -341,8 +341,8 @@ module _ {Shape Rec : Type 0} (judge : Judge Shape Rec) (full most : ℕ) (wrong
             ap (walk judge sh 0) (take-all m log (omega (arith, all)) ∙ sym (take-all (base + w .held) log (omega (arith, all, o .place))))
             ∙ o .rest (w .held)
             ∙ ap (adds rs) (walk-more judge laws (w .shape) base y s e j)
-            ∙ ap (λ l. record { records = l; ending = closing base y s }) (append-nil rs)
-            ∙ ap (λ t. record { records = rs; ending = closing t y s }) b;
+            ∙ ap (λ l. record { records = l; ending = closing base (length y) s }) (append-nil rs)
+            ∙ ap (λ t. record { records = rs; ending = closing t (length y) s }) b;
       }
 
       -- A close of an open walker stops,
