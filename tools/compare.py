@@ -3,9 +3,9 @@
 
     tools/compare.py [FOLDER] [--bench COMMAND] [--list COMMAND] [--oracle DRIVER] [--only KIND]
 
-FOLDER has the Rust source (docs/src) and logs of real firmware (logs); without it ../shared. COMMAND is what starts our program `bench`
-(target/bin/bench) and, if it is to be compared too, the listing. DRIVER is a built oracle; without it oracle/build.sh is run, unless
-target/oracle/driver is there. To be run from the top of the repository.
+FOLDER has the Rust source (docs/src) and logs of real firmware (logs); without it ../shared. COMMAND is what starts our programs `bench` and
+`list` (tools/run bench, tools/run list). DRIVER is a built oracle; without it oracle/build.sh is run, unless target/oracle/driver is there. To
+be run from the top of the repository.
 
 Every log of tools/compare_logs.py is walked by the bench over 64 slots and by the oracle, and the lines of all records and the last line must
 be the same. Where the Rust has no answer to compare with, docs/DIFFERENCES.md says why, and ours must be this:
@@ -13,7 +13,7 @@ be the same. Where the Rust has no answer to compare with, docs/DIFFERENCES.md s
   - a limit that it does not have (1, 3, 11) is passed: that refusal;
   - more than 64 records: the first 64, and 12 at the next one, or that one's own refusal.
 A sample is also fed in pieces, by value and where the walker lies, and every line of every call must be as document 01 says of a log with
-these records (`fed`); of another the nodes and entries are read by index (`read`); and ten thousand go through the listing, if it is given.
+these records (`fed`); of another the nodes and entries are read by index (`read`); and ten thousand go through the listing.
 
 It prints how many were compared, by kind and by the last line of the Rust, and every difference; it ends with 1 if there is one.
 """
@@ -271,7 +271,7 @@ def compare(kind, logs, turn, r, programs, counts):
     counts["read"] += sum(text.count("\n") for _, _, text in cases)
     found += differences(kind + ", read", bench, cases)
 
-    for i in range(turn % LISTED, len(logs) if listing else 0, LISTED):
+    for i in range(turn % LISTED, len(logs), LISTED):
         counts["listed"] += 1
         found += differences(kind + ", listed", listing, [(logs[i], logs[i], list_text(says[i]))])
     return found
@@ -289,12 +289,12 @@ def oracle(given, folder):
 def main():
     ways = argparse.ArgumentParser(description="Holds our reader to the Rust.")
     ways.add_argument("folder", nargs="?", default="../shared")
-    ways.add_argument("--bench", default="target/bin/bench")
-    ways.add_argument("--list")
+    ways.add_argument("--bench", default="tools/run bench")
+    ways.add_argument("--list", default="tools/run list")
     ways.add_argument("--oracle")
     ways.add_argument("--only", choices=compare_logs.PARTS)
     given = ways.parse_args()
-    programs = oracle(given.oracle, given.folder), shlex.split(given.bench), given.list and shlex.split(given.list)
+    programs = oracle(given.oracle, given.folder), shlex.split(given.bench), shlex.split(given.list)
     tasks = [(kind, i, given.folder, *programs) for kind, n in compare_logs.PARTS.items() for i in range(n) if given.only in (None, kind)]
     counts, found = collections.defaultdict(collections.Counter), []
     with multiprocessing.Pool(2) as pool:
