@@ -42,7 +42,10 @@ fn header(h: Header) -> u64 {
     let own = three(h.my_lba, h.alternate_lba, h.entry_lba);
     let usable = add(h.first_usable_lba, h.last_usable_lba);
     let entries = three(h.end as u64, h.entry_size as u64, h.entries as u64);
-    add(three(first, own, usable), three(entries, span(guid), span(reserved)))
+    add(
+        three(first, own, usable),
+        three(entries, span(guid), span(reserved)),
+    )
 }
 
 fn blob(b: BlobFields) -> u64 {
