@@ -26,7 +26,7 @@ import tempfile
 
 import compare_logs
 from compare import oracle
-from contents_answers import SMALLEST, agile, record, sample, spec, u32
+from contents_answers import SMALLEST, agile, record, sample, spec
 
 LOG_MOST = 65536
 ROUNDS, SECONDS = 5, 0.35
@@ -53,9 +53,9 @@ SMALL = {
     "agile, two digests, 4 bytes of data": filled(compare_logs.WITH_TWO, agile(SEPARATOR, [(4, sample(20)), (0xB, sample(32))], bytes(4))),
 }
 TEXT = {
-    "UTF-8, one byte each": texts(UTF8, b"abcdefghijkl"),
-    "UTF-8, two, three and four bytes each": texts(UTF8, "\u00e9\u20ac\U0001F600\u0416\U00020000\u4e2d".encode() + b"\xc3\xb8" * 7),
-    "wide text, one unit each": texts(WIDE, "abcdef".encode("utf-16le")),
+    "UTF-8, one byte a character": texts(UTF8, b"abcdefghijkl"),
+    "UTF-8, two to four bytes a character": texts(UTF8, ("\u20ac\u4e2d\U0001F600\U00020000" + 9 * "\u00e9").encode()),
+    "wide text": texts(WIDE, "abcdef".encode("utf-16le")),
 }
 
 
