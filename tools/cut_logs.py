@@ -1,12 +1,11 @@
 #!/usr/bin/env python3
-"""Makes what crates/cut_logs is run on, and measures what cutting costs.
+"""Makes what crates/cut_logs is run on.
 
     tools/cut_logs.py gate [LOGS]                  writes crates/cut_logs/stdin, the input of the run in the gate
     tools/cut_logs.py all DAMAGED [LOGS]           writes the long run's input to standard output
-    tools/cut_logs.py time PROGRAM [LOGS]          prints the times of the crate's README.md
 
 To be run from the top of the repository. LOGS is the folder with the logs of real firmware (default: ../shared/logs). DAMAGED
-is how many damaged copies of each log the long run has beside it. PROGRAM is the command, in one string, that runs the program.
+is how many damaged copies of each log the long run has beside it.
 
 The input is a sequence of logs, each a length of 4 bytes, little-endian, and so many bytes. The logs of document 01's bench
 are made here field by field. Two runs write the same bytes.
@@ -14,10 +13,7 @@ are made here field by field. Two runs write the same bytes.
 import glob
 import os
 import random
-import resource
-import shlex
 import struct
-import subprocess
 import sys
 
 LOG_MOST = 65536
@@ -226,51 +222,17 @@ def packed(logs):
     return b"".join(u32(len(log)) + log for log in logs)
 
 
-# ---------------------------------------------------------------- times
-
-def took(program, log, size, times):
-    """Seconds of processor time: on an idle machine these have passed on the clock too."""
-    before = resource.getrusage(resource.RUSAGE_CHILDREN).ru_utime
-    subprocess.run([*program, str(size), str(times)], input=packed([log]), stdout=subprocess.DEVNULL, check=True)
-    return resource.getrusage(resource.RUSAGE_CHILDREN).ru_utime - before
-
-
-def per_log(program, log, size):
-    """Milliseconds to feed the log once by pieces of a size: the program's start is taken off."""
-    none = min(took(program, log, size, 0) for _ in range(3))
-    times = 1
-    while took(program, log, size, times) - none < 0.5:
-        times *= 4
-    return min(took(program, log, size, times) - none for _ in range(3)) / times * 1000
-
-
-def measure(program, folder):
-    for name in ("qemu-b-ovmf2022-gptdisk-grub206-crb-sha1+sha256.bin", "pkg-goeventlog-tpm-ubuntu-2404-amd-sevsnp.bin"):
-        with open(os.path.join(folder, name), "rb") as f:
-            log = f.read()
-        one = per_log(program, log, LOG_MOST)
-        for size in (LOG_MOST, 4096, 256, 16, 1):
-            ms = per_log(program, log, size)
-            print(f"{name} ({len(log)} bytes), pieces of {size}: {ms:.3f} ms, {ms / one:.1f} times one piece")
-    for count in (4000, 8000, 16000):
-        log = marker((SHA256, 0)) + agile(SEPARATOR, [(SHA256, 0)] * count, u32(0))
-        one, each = per_log(program, log, LOG_MOST), per_log(program, log, 1)
-        print(f"{count} digests of size 0 ({len(log)} bytes), one piece: {one:.3f} ms, pieces of 1: {each:.0f} ms")
-
-
 def main():
     words = sys.argv[1:]
-    least = {"gate": 1, "all": 2, "time": 2}.get(words[0] if words else "", 9)
+    least = {"gate": 1, "all": 2}.get(words[0] if words else "", 9)
     if not least <= len(words) <= least + 1:
         sys.exit(__doc__)
     folder = words[least] if least < len(words) else "../shared/logs"
     if words[0] == "gate":
         with open("crates/cut_logs/stdin", "wb") as f:
             f.write(packed(gate_logs(folder)))
-    elif words[0] == "all":
-        sys.stdout.buffer.write(packed(all_logs(folder, int(words[1]))))
     else:
-        measure(shlex.split(words[1]), folder)
+        sys.stdout.buffer.write(packed(all_logs(folder, int(words[1]))))
 
 
 main()

@@ -1,7 +1,6 @@
 // Feeds the logs on standard input to a walker, cut in many ways, and holds each answer to the walk
 // of the whole log. README.md has the ways and the layout of the input.
 mod cut;
-mod measure;
 mod run;
 mod same;
 mod ways;
@@ -33,13 +32,6 @@ struct Totals {
     random: u64,
 }
 
-// What is asked for: all the ways, or pieces of one size, so many times over.
-struct Task {
-    measures: bool,
-    size: usize,
-    times: usize,
-}
-
 fn say(s: &[u8]) {
     io::write_all(1, s);
 }
@@ -67,10 +59,7 @@ fn line(index: usize, bytes: usize, t: Tally) {
     verdict(t);
 }
 
-fn last_line(task: Task, logs: usize, t: Totals) {
-    if task.measures {
-        return;
-    }
+fn last_line(logs: usize, t: Totals) {
     number(b"logs ", logs);
     number(b" bytes ", t.bytes);
     number(b" records ", t.records);
@@ -136,24 +125,7 @@ fn compare(log: &[u8], hold: &mut [u8], index: usize, t: Totals) -> Totals {
     added(t, log.len(), of)
 }
 
-fn time(log: &[u8], hold: &mut [u8], task: Task) {
-    let calls = measure::repeat(log, hold, task.size, task.times);
-    number(b"bytes ", log.len());
-    number(b" pieces of ", task.size);
-    number(b" times ", task.times);
-    number(b" calls ", calls);
-    say(b"\n");
-}
-
-fn one_log(log: &[u8], hold: &mut [u8], task: Task, index: usize, t: Totals) -> Totals {
-    if task.measures {
-        time(log, hold, task);
-        return t;
-    }
-    compare(log, hold, index, t)
-}
-
-fn logs(buf: &mut [u8], hold: &mut [u8], task: Task) {
+fn logs(buf: &mut [u8], hold: &mut [u8]) {
     let mut t = Totals {
         bytes: 0,
         records: 0,
@@ -168,9 +140,9 @@ fn logs(buf: &mut [u8], hold: &mut [u8], task: Task) {
         match input {
             Input::Log(len) => {
                 let log = number::part(buf, Span { at: 0, len });
-                t = one_log(log, hold, task, i, t);
+                t = compare(log, hold, i, t);
             }
-            Input::End => return last_line(task, i, t),
+            Input::End => return last_line(i, t),
             Input::Short => return stopped(b"standard input ends inside log ", i),
             Input::Long => return stopped(b"over 65536 bytes: log ", i),
         }
@@ -178,27 +150,8 @@ fn logs(buf: &mut [u8], hold: &mut [u8], task: Task) {
     }
 }
 
-// The number that an argument is, in decimal.
-fn argument(index: usize) -> usize {
-    let mut text = [0u8; 9];
-    let n = os::arg(index, &mut text);
-    let mut value: usize = 0;
-    let mut i: usize = 0;
-    while i < n {
-        let digit = (number::byte(&text, i) as usize) % 16;
-        value = add(10 * (value % 100000000), digit);
-        i += 1;
-    }
-    value
-}
-
 fn main() {
     let mut buf = [0u8; LOG_MOST];
     let mut hold = [0u8; HOLD_FULL];
-    let task = Task {
-        measures: 2 < os::arg_count(),
-        size: argument(1),
-        times: argument(2),
-    };
-    logs(&mut buf, &mut hold, task);
+    logs(&mut buf, &mut hold);
 }

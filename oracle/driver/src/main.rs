@@ -3,6 +3,7 @@
 //!     driver list   [OPTIONS] < log       the lines of the listing
 //!     driver detail [OPTIONS] < log       the same with every field
 //!     driver batch  [OPTIONS] < frames    many logs, each its length (u32, little-endian) and its bytes; `--` after each answer
+//!     driver time N < log                 walks the log N times with the crate alone, and says how many records it gave in all
 //!
 //!     --detail        in batch: every field
 //!     --parts         after an image a line for each node, after a GPT a line for each entry
@@ -82,14 +83,25 @@ fn work(batch: bool, settings: Settings, state: Shared) {
     }
 }
 
+fn time(times: usize) {
+    let mut log = Vec::new();
+    std::io::stdin().read_to_end(&mut log).expect("standard input");
+    let records: usize = (0..times).map(|_| walk::alone(&log)).sum();
+    say(&format!("records {records}\n"));
+}
+
 fn usage() -> ! {
-    eprintln!("usage: driver list|detail|batch [--detail] [--parts] [--no-limits] [--stack-mib N]");
+    eprintln!("usage: driver list|detail|batch [--detail] [--parts] [--no-limits] [--stack-mib N], or driver time N");
     std::process::exit(2)
 }
 
 fn main() {
     let given: Vec<String> = std::env::args().skip(1).collect();
     let Some((mode, options)) = given.split_first() else { usage() };
+    if mode == "time" {
+        let [times] = options else { usage() };
+        return time(times.parse().unwrap_or_else(|_| usage()));
+    }
     let (mut settings, mut stack) = (Settings { detail: mode == "detail", parts: false, limits: true }, 256);
     let mut options_left = options.iter();
     while let Some(option) = options_left.next() {

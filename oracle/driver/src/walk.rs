@@ -6,6 +6,7 @@
 use crate::lines;
 use fallible_iterator::FallibleIterator;
 use std::fmt::Write;
+use std::hint::black_box;
 use std::io::{Error as IoError, ErrorKind, Read};
 use std::panic::{catch_unwind, AssertUnwindSafe};
 use std::sync::{Arc, Mutex};
@@ -162,6 +163,17 @@ pub fn walk(log: &[u8], settings: Settings, state: &Shared) -> String {
             Err(e) => return format!("error {e:?}"),
         }
     }
+}
+
+/// The crate alone over a log, up to its end or its first error; each event is made whole and dropped. Gives how many there were.
+pub fn alone(log: &[u8]) -> usize {
+    let mut parser = Parser::new(black_box(log));
+    let mut records = 0;
+    while let Ok(Some(event)) = parser.next() {
+        drop(black_box(event));
+        records += 1;
+    }
+    records
 }
 
 fn marker(data: &[u8], parser: &str) -> String {

@@ -7,10 +7,10 @@ use Rattle.cut_logs.proofs.logs.Statement.{statement}
 use Rattle.cut_logs.proofs.logs.Tie as tie
 
 abbrev Inv-loop : tie.InvT-loop
-Inv-loop buf₀ hold₀ task t₀ i₀ t9 t10 buf hold t i = (length buf ≡ length buf₀) × (length hold ≡ length hold₀)
+Inv-loop buf₀ hold₀ t₀ i₀ t9 t10 buf hold t i = (length buf ≡ length buf₀) × (length hold ≡ length hold₀)
 
 abbrev μ-loop : tie.MeasureT-loop
-μ-loop buf₀ hold₀ task t₀ i₀ t9 t10 buf hold t i = 4294967295 - i
+μ-loop buf₀ hold₀ t₀ i₀ t9 t10 buf hold t i = 4294967295 - i
 
 loop-holds : tie.Need-loop-holds Inv-loop μ-loop
 loop-holds c = search needs
@@ -24,8 +24,8 @@ enum-known-input c = search needs
 part-requires : tie.Need-part-requires Inv-loop μ-loop
 part-requires c κs = search needs
 
-one-log-requires : tie.Need-one-log-requires Inv-loop μ-loop
-one-log-requires c κs = search needs
+compare-requires : tie.Need-compare-requires Inv-loop μ-loop
+compare-requires c κs = search needs
 
 enum-told : tie.Need-enum-told Inv-loop μ-loop
 enum-told c = search needs
@@ -106,7 +106,7 @@ logs-spec =
     next-log-requires
     enum-known-input
     part-requires
-    one-log-requires
+    compare-requires
     enum-told
     last-line-requires
     same-length

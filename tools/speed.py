@@ -1,0 +1,283 @@
+#!/usr/bin/env python3
+"""Measures our reader against the Rust, and prints the tables of docs/SPEED.md.
+
+    tools/speed.py [FOLDER] [--speed COMMAND] [--oracle DRIVER]
+    tools/speed.py --gate                              writes crates/speed/stdin
+
+FOLDER has the Rust source (docs/src) and logs of real firmware (logs); without it ../shared. COMMAND is what starts our program `speed`:
+without it target/native/speed if tools/native.sh has made one, else target/bin/speed. DRIVER is a built oracle; without it oracle/build.sh
+is run, unless target/oracle/driver is there. To be run from the top of the repository.
+
+A time is the processor time of a process that reads one log so many times over, less that of one that reads it no times, divided by the
+times. The processes to be compared run by turns, five times each, and the least of each counts. Before it is timed a log must give the
+records and the sum of all their numbers that the oracle's lines have, and so must the stored run of crates/speed.
+
+It ends with 1 if a bound is missed: the walk takes over twice the time of the Rust on a real log or on small records, a feed in one piece
+over twice the time of the walk, or a digest of 16,000 over 1.3 times the time of one of 4,000.
+"""
+import argparse
+import os
+import re
+import shlex
+import struct
+import subprocess
+import sys
+import tempfile
+
+import compare_logs
+from compare import oracle
+from contents_answers import SMALLEST, agile, record, sample, spec
+
+LOG_MOST = 65536
+ROUNDS, SECONDS = 5, 0.35
+NO_ACTION, NONE, SEPARATOR, UTF8, WIDE = 3, 5, 4, 1, 8
+WALK, ONE_PIECE = 0, LOG_MOST
+TWO_REAL = ("qemu-b-ovmf2022-gptdisk-grub206-crb-sha1+sha256.bin", "pkg-goeventlog-tpm-ubuntu-2404-amd-sevsnp.bin")
+
+
+# ---------------------------------------------------------------- the logs
+
+def filled(head, one):
+    """As many of one record after the head as a log may have."""
+    return head + one * ((LOG_MOST - len(head)) // len(one))
+
+
+def texts(ty, text):
+    """Two records of text that fill a log. The text's length divides 32,736."""
+    return 2 * record(ty, text * (32736 // len(text)))
+
+
+SMALL = {
+    "agile, no digest, no data": filled(SMALLEST, agile(NONE, [], b"")),
+    "SHA-1, no data": filled(b"", record(NONE, b"")),
+    "agile, two digests, 4 bytes of data": filled(compare_logs.WITH_TWO, agile(SEPARATOR, [(4, sample(20)), (0xB, sample(32))], bytes(4))),
+}
+TEXT = {
+    "UTF-8, one byte a character": texts(UTF8, b"abcdefghijkl"),
+    "UTF-8, two to four bytes a character": texts(UTF8, ("\u20ac\u4e2d\U0001F600\U00020000" + 9 * "\u00e9").encode()),
+    "wide text": texts(WIDE, "abcdef".encode("utf-16le")),
+}
+
+
+def digests(count):
+    """A record of so many digests of size zero: the most fields to its bytes."""
+    return record(NO_ACTION, spec([(0xB, 0)])) + agile(SEPARATOR, [(0xB, b"")] * count, bytes(4))
+
+
+def real_log(folder, name):
+    with open(os.path.join(folder, "logs", name), "rb") as f:
+        return f.read()
+
+
+def real_logs(folder, driver):
+    """Those of at most 65,536 bytes of which more than 16 KiB are read."""
+    logs = {}
+    for name in sorted(os.listdir(os.path.join(folder, "logs"))):
+        log = real_log(folder, name)
+        if name.endswith(".bin") and len(log) <= LOG_MOST and read_to(driver, log) > 16384:
+            logs[name[:-4]] = log
+    return logs
+
+
+# ---------------------------------------------------------------- the stored run
+
+def task(size, times, log):
+    return struct.pack("<III", size, times, len(log)) + log
+
+
+def stored_tasks():
+    """A real log, one with every kind of contents, a refused one, small ones; and at the end a task that is too long."""
+    with open("crates/list/stdin", "rb") as f:
+        real = f.read()
+    every = compare_logs.WITH_TWO + b"".join(agile(ty, [(4, sample(20))], data) for ty, data in compare_logs.SOUND) + b"\1\2"
+    refused = record(NONE, b"abc") + record(SEPARATOR, b"\xff" * 4) + record(*compare_logs.FAULTY[12])
+    for log in (real, every, refused, record(SEPARATOR, bytes(4)) + b"\7", digests(20), bytes(3), b""):
+        for size in (WALK, ONE_PIECE, 16, 1):
+            yield task(size, 1, log)
+    yield task(WALK, 3, real) + task(256, 2, real) + task(WALK, 0, real)
+    yield struct.pack("<III", WALK, 1, LOG_MOST + 1)
+
+
+def check_stored(driver):
+    with open("crates/speed/stdin", "rb") as f:
+        given = f.read()
+    with open("crates/speed/stdout") as f:
+        lines = iter(f.read().splitlines())
+    at = 0
+    while at + 12 < len(given):
+        size, times, n = struct.unpack_from("<III", given, at)
+        at += 12 + n
+        check(driver, given[at - n:at], size, times, next(lines))
+
+
+# ---------------------------------------------------------------- what a line must say
+
+def lines_of(driver, log):
+    return subprocess.run([driver, "detail"], input=log, stdout=subprocess.PIPE, check=True).stdout.decode().splitlines()
+
+
+def read_to(driver, log):
+    """Where the log ends or is refused; 0 if it leaves the domain that we share with the Rust."""
+    last = re.match(r"(?:end|refused \d+) at (\d+)", lines_of(driver, log)[-1])
+    return int(last[1]) if last else 0
+
+
+def said(driver, log):
+    """How many records the oracle's lines have, and the sum of the numbers in them; the word `bios` counts 1."""
+    lines = lines_of(driver, log)[1:-1]
+    return len(lines), sum(int(n) for line in lines for n in re.findall(r"\d+", line)) + sum(line.endswith("bios") for line in lines)
+
+
+def check(driver, log, size, times, line):
+    """Holds a line of our program to the oracle; gives the records of one walk."""
+    records, total = said(driver, log)
+    word = f"pieces of {size}" if size else "walk"
+    calls = str((records + 1) * times) if size == WALK else r"\d+"
+    if not re.fullmatch(f"{word} bytes {len(log)} times {times} calls {calls} records {records * times} sum {total * times % 2**64}", line):
+        sys.exit(f"speed: {line}\nthe oracle has {records} records and the sum {total}")
+    return records
+
+
+# ---------------------------------------------------------------- times
+
+def spent(command, given):
+    """Seconds of processor time, and what was written."""
+    with tempfile.TemporaryFile() as f:
+        f.write(given)
+        f.seek(0)
+        process = subprocess.Popen(command, stdin=f, stdout=subprocess.PIPE)
+        written = process.stdout.read().decode().strip()
+        _, status, usage = os.wait4(process.pid, 0)
+        process.returncode = status
+    if status:
+        sys.exit(f"speed: {' '.join(command)} ended with {status}")
+    return usage.ru_utime + usage.ru_stime, written
+
+
+class Ours:
+    """Our program on a log, by pieces of a size or whole."""
+
+    def __init__(self, command, driver, log, size):
+        self.command, self.log, self.size = command, log, size
+        self.records = check(driver, log, size, 1, self.run(1)[1])
+
+    def run(self, times):
+        return spent(self.command, task(self.size, times, self.log))
+
+
+class Rust:
+    """The oracle on a log. It gives a marker's record to nobody."""
+
+    def __init__(self, driver, log):
+        self.driver, self.log = driver, log
+        given = sum(" marker " not in line for line in lines_of(driver, log)[1:-1])
+        written = self.run(1)[1]
+        if written != f"records {given}":
+            sys.exit(f"speed: the oracle says {written}, and its lines are {given}")
+
+    def run(self, times):
+        return spent([self.driver, "time", str(times)], self.log)
+
+
+def times_for(reader):
+    """How often a log is read in about SECONDS."""
+    times = 1
+    while True:
+        took = reader.run(times)[0]
+        if took > 0.04:
+            return max(1, round(times * SECONDS / took))
+        times *= 4
+
+
+def measured(*readers):
+    """Microseconds for one reading, of each reader."""
+    times = [times_for(reader) for reader in readers]
+    full, none = [], []
+    for _ in range(ROUNDS):
+        full.append([reader.run(n)[0] for reader, n in zip(readers, times)])
+        none.append([reader.run(0)[0] for reader in readers])
+    return [(min(a) - min(b)) / n * 1e6 for a, b, n in zip(zip(*full), zip(*none), times)]
+
+
+# ---------------------------------------------------------------- the tables
+
+def table(title, *heads):
+    print(f"\n{title}\n\n| " + " | ".join(heads) + " |\n" + "|---" * len(heads) + "|", flush=True)
+
+
+def row(*cells):
+    print("| " + " | ".join(cells) + " |", flush=True)
+
+
+def us(time):
+    return f"{time:,.0f}" if time >= 100 else f"{time:.1f}"
+
+
+def whole_row(name, read, records, took):
+    rust, walk, piece = took
+    row(name, read, records, us(rust), us(walk), f"{walk / rust:.2f}", us(piece), f"{piece / walk:.2f}")
+
+
+def whole(ours, driver, title, logs, missed, bound=2):
+    """The walk against the Rust, and a feed in one piece against the walk; gives the times of all logs together."""
+    table(title, "log", "read up to", "records", "Rust, µs", "walk, µs", "walk : Rust", "one piece, µs", "one piece : walk")
+    sums = [0, 0, 0]
+    for name, log in logs.items():
+        walk, piece = Ours(ours, driver, log, WALK), Ours(ours, driver, log, ONE_PIECE)
+        took = measured(Rust(driver, log), walk, piece)
+        whole_row(name, f"{read_to(driver, log):,}", f"{walk.records:,}", took)
+        if took[1] > bound * took[0]:
+            missed.append(f"the walk of {name}")
+        if took[2] > 2 * took[1]:
+            missed.append(f"one piece of {name}")
+        sums = [a + b for a, b in zip(sums, took)]
+    return sums
+
+
+def many_digests(ours, driver, missed):
+    table("One record of digests of size zero", "digests", "in one piece, µs", "a digest, ns", "one byte at a time, ms")
+    each = []
+    for count in (4000, 8000, 16000):
+        log = digests(count)
+        piece, single = measured(Ours(ours, driver, log, ONE_PIECE), Ours(ours, driver, log, 1))
+        each.append(piece / count)
+        row(f"{count:,}", us(piece), f"{1000 * each[-1]:.1f}", f"{single / 1000:,.0f}")
+    if each[-1] > 1.3 * each[0]:
+        missed.append("many digests in one piece")
+
+
+def by_pieces(ours, driver, folder):
+    """Pieces of several sizes over two real logs, and how many times the time of one piece that is."""
+    logs = [real_log(folder, name) for name in TWO_REAL]
+    table("Two real logs by pieces", "pieces of", *(f"{name[:-4]}, {len(log):,} bytes, µs" for name, log in zip(TWO_REAL, logs)))
+    sizes = (ONE_PIECE, 4096, 256, 16, 1)
+    columns = [measured(*(Ours(ours, driver, log, size) for size in sizes)) for log in logs]
+    for size, *took in zip(sizes, *columns):
+        row(f"{size:,}", *(f"{us(one)}, {one / column[0]:.2f} times one piece" for one, column in zip(took, columns)))
+
+
+def main():
+    ways = argparse.ArgumentParser(description="Measures our reader against the Rust.")
+    ways.add_argument("folder", nargs="?", default="../shared")
+    ways.add_argument("--speed", default="target/native/speed" if os.path.exists("target/native/speed") else "target/bin/speed")
+    ways.add_argument("--oracle")
+    ways.add_argument("--gate", action="store_true")
+    given = ways.parse_args()
+    if given.gate:
+        with open("crates/speed/stdin", "wb") as f:
+            f.write(b"".join(stored_tasks()))
+        return
+    ours, driver, missed = shlex.split(given.speed), oracle(given.oracle, given.folder), []
+    check_stored(driver)
+    together = whole(ours, driver, "Real logs", real_logs(given.folder, driver), missed)
+    whole_row("all together", "", "", together)
+    whole(ours, driver, "Small records", SMALL, missed)
+    whole(ours, driver, "Text", TEXT, missed, bound=float("inf"))
+    many_digests(ours, driver, missed)
+    by_pieces(ours, driver, given.folder)
+    print("".join(f"\nmissed: {bound}" for bound in missed))
+    sys.exit(1 if missed else 0)
+
+
+if __name__ == "__main__":
+    main()
