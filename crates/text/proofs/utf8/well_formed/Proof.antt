@@ -11,35 +11,35 @@ use Rattle.text.proofs.utf8.well_formed.Statement.{statement}
 use Rattle.text.proofs.utf8.well_formed.Tie as tie
 
 abbrev Inv-loop : tie.InvT-loop
-Inv-loop s at₀ at = (at ≤ length s) × (formed utf8Rows 0 (drop at s) ≡ formed utf8Rows 0 s)
+Inv-loop s table at₀ at = (at ≤ length s) × (formed utf8Rows 0 (drop at s) ≡ formed utf8Rows 0 s)
 
 abbrev μ-loop : tie.MeasureT-loop
-μ-loop s at₀ at = length s - at
+μ-loop s table at₀ at = length s - at
 
 loop-holds : tie.Need-loop-holds Inv-loop μ-loop
 loop-holds c = (omega arith, refl)
 
 sequence-requires : tie.Need-sequence-requires Inv-loop μ-loop
-sequence-requires c κs = omega arith
+sequence-requires c κs = (refl, omega arith)
 
 returns : tie.Need-returns Inv-loop μ-loop
 returns c =
-    let s = c .before .before .before .before .before .args .s .now in
-    let at = c .before .before .before .loop .at in
-    sym (turn-stuck utf8Rows s at (omega arith) (sym (c .if1 .taken) ∙ c .before .sequence .ensures)) ∙ c .before .before .before .loop .inv .1
+    let s = c .before .before .before .before .before .before .args .s .now in
+    let at = c .before .before .before .before .loop .at in
+    sym (turn-stuck utf8Rows s at (omega arith) (sym (c .if1 .taken) ∙ c .before .sequence .ensures)) ∙ c .before .before .before .before .loop .inv .1
 
 add-at : tie.Need-add-at Inv-loop μ-loop
-add-at c = omega (arith, turn-fits utf8Rows (c .before .before .before .before .before .args .s .now) (c .before .before .before .loop .at) (c .before .sequence .result) (omega arith) (c .before .sequence .ensures))
+add-at c = omega (arith, turn-fits utf8Rows (c .before .before .before .before .before .before .args .s .now) (c .before .before .before .before .loop .at) (c .before .sequence .result) (omega arith) (c .before .sequence .ensures))
 
 loop-less : tie.Need-loop-less Inv-loop μ-loop
-loop-less c = omega (arith, turn-fits utf8Rows (c .before .before .before .before .before .args .s .now) (c .before .before .before .loop .at) (c .before .sequence .result) (omega arith) (c .before .sequence .ensures))
+loop-less c = omega (arith, turn-fits utf8Rows (c .before .before .before .before .before .before .args .s .now) (c .before .before .before .before .loop .at) (c .before .sequence .result) (omega arith) (c .before .sequence .ensures))
 
 loop-again : tie.Need-loop-again Inv-loop μ-loop
 loop-again c =
-    let s = c .before .before .before .before .before .args .s .now in
-    let at = c .before .before .before .loop .at in
+    let s = c .before .before .before .before .before .before .args .s .now in
+    let at = c .before .before .before .before .loop .at in
     let n = c .before .sequence .result in
-    (turn-fits utf8Rows s at n (omega arith) (c .before .sequence .ensures), turn utf8Rows s at n (omega arith) (c .before .sequence .ensures) ∙ c .before .before .before .loop .inv .1)
+    (turn-fits utf8Rows s at n (omega arith) (c .before .sequence .ensures), turn utf8Rows s at n (omega arith) (c .before .sequence .ensures) ∙ c .before .before .before .before .loop .inv .1)
 
 returns-2 : tie.Need-returns-2 Inv-loop μ-loop
 returns-2 c =
