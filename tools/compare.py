@@ -4,8 +4,8 @@
     tools/compare.py [FOLDER] [--bench COMMAND] [--list COMMAND] [--oracle DRIVER] [--only KIND]
 
 FOLDER has the Rust source (docs/src) and logs of real firmware (logs); without it ../shared. COMMAND is what starts our programs `bench` and
-`list` (tools/run bench, tools/run list). DRIVER is a built oracle; without it oracle/build.sh is run, unless target/oracle/driver is there. To
-be run from the top of the repository.
+`list`: without it they are built, by `rt check` on x86-64 and by tools/native.sh on another processor. DRIVER is a built oracle; without it
+oracle/build.sh is run, unless target/oracle/driver is there. To be run from the top of the repository.
 
 Every log of tools/compare_logs.py is walked by the bench over 64 slots and by the oracle, and the lines of all records and the last line must
 be the same. Where the Rust has no answer to compare with, docs/DIFFERENCES.md says why, and ours must be this:
@@ -22,6 +22,7 @@ import collections
 import itertools
 import multiprocessing
 import os
+import platform
 import random
 import re
 import shlex
@@ -286,15 +287,24 @@ def oracle(given, folder):
     return os.path.abspath(driver)
 
 
+def program(name, command):
+    """The command that starts our program, or the program itself: built, if it is not there as it should be, and for this processor."""
+    if command:
+        return shlex.split(command)
+    own = platform.machine() == "x86_64"
+    subprocess.run(["rt", "check", name] if own else ["tools/native.sh", name], check=True, stdout=sys.stderr)
+    return [os.path.join("target", "bin" if own else "native", name)]
+
+
 def main():
     ways = argparse.ArgumentParser(description="Holds our reader to the Rust.")
     ways.add_argument("folder", nargs="?", default="../shared")
-    ways.add_argument("--bench", default="tools/run bench")
-    ways.add_argument("--list", default="tools/run list")
+    ways.add_argument("--bench")
+    ways.add_argument("--list")
     ways.add_argument("--oracle")
     ways.add_argument("--only", choices=compare_logs.PARTS)
     given = ways.parse_args()
-    programs = oracle(given.oracle, given.folder), shlex.split(given.bench), shlex.split(given.list)
+    programs = oracle(given.oracle, given.folder), program("bench", given.bench), program("list", given.list)
     tasks = [(kind, i, given.folder, *programs) for kind, n in compare_logs.PARTS.items() for i in range(n) if given.only in (None, kind)]
     counts, found = collections.defaultdict(collections.Counter), []
     with multiprocessing.Pool(2) as pool:

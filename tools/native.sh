@@ -31,7 +31,14 @@ clang=$kit/on/$machine/toolchain/bin/clang
 printf '#!/bin/sh\ncp module.bc "%s" && exec "%s" "$@"\n' "$out/$program.bc" "$clang" > "$shadow/on/$machine/toolchain/bin/clang"
 chmod +x "$shadow/on/$machine/toolchain/bin/clang"
 
-rm -f "$out/$program.bc" "target/stamp/$program"
+stamp=target/stamp/$program
+rm -f "$out/$program.bc"
 RATTLE_HOME=$shadow rt check "$program"
+if [ ! -f "$out/$program.bc" ]; then # nothing has changed since it was proved
+    if [ -x "$out/$program" ] && cmp -s "$stamp" "$out/$program.stamp"; then exit; fi
+    rm "$stamp"
+    RATTLE_HOME=$shadow rt check "$program"
+fi
 "$clang" -O3 -fPIE -ffunction-sections -fdata-sections -w -c -x ir "$out/$program.bc" -o "$out/$program.o" 2> "$out/$program.said" || { cat "$out/$program.said"; exit 1; }
 cc -o "$out/$program" "$out/$program.o"
+cp "$stamp" "$out/$program.stamp"

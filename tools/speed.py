@@ -5,8 +5,8 @@
     tools/speed.py --gate                              writes crates/speed/stdin
 
 FOLDER has the Rust source (docs/src) and logs of real firmware (logs); without it ../shared. COMMAND is what starts our program `speed`:
-without it target/native/speed if tools/native.sh has made one, else target/bin/speed. DRIVER is a built oracle; without it oracle/build.sh
-is run, unless target/oracle/driver is there. To be run from the top of the repository.
+without it it is built, by `rt check` on x86-64 and by tools/native.sh on another processor. DRIVER is a built oracle; without it
+oracle/build.sh is run, unless target/oracle/driver is there. To be run from the top of the repository.
 
 A time is the processor time of a process that reads one log so many times over, less that of one that reads it no times, divided by the
 times. The processes to be compared run by turns, five times each, and the least of each counts. Before it is timed a log must give the
@@ -18,14 +18,13 @@ over twice the time of the walk, or a digest of 16,000 over 1.3 times the time o
 import argparse
 import os
 import re
-import shlex
 import struct
 import subprocess
 import sys
 import tempfile
 
 import compare_logs
-from compare import oracle
+from compare import oracle, program
 from contents_answers import SMALLEST, agile, record, sample, spec
 
 LOG_MOST = 65536
@@ -259,7 +258,7 @@ def by_pieces(ours, driver, folder):
 def main():
     ways = argparse.ArgumentParser(description="Measures our reader against the Rust.")
     ways.add_argument("folder", nargs="?", default="../shared")
-    ways.add_argument("--speed", default="target/native/speed" if os.path.exists("target/native/speed") else "target/bin/speed")
+    ways.add_argument("--speed")
     ways.add_argument("--oracle")
     ways.add_argument("--gate", action="store_true")
     given = ways.parse_args()
@@ -267,7 +266,7 @@ def main():
         with open("crates/speed/stdin", "wb") as f:
             f.write(b"".join(stored_tasks()))
         return
-    ours, driver, missed = shlex.split(given.speed), oracle(given.oracle, given.folder), []
+    ours, driver, missed = program("speed", given.speed), oracle(given.oracle, given.folder), []
     check_stored(driver)
     together = whole(ours, driver, "Real logs", real_logs(given.folder, driver), missed)
     whole_row("all together", "", "", together)
