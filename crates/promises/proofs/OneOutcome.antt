@@ -3,10 +3,12 @@
 --   table-one, table-some   a walk over the first slots of a table
 --   feed-one, feed-some     a feed, by value or where the walker lies
 --   close-one, close-some   a close, likewise; it has the hold to read only
+--   writes-one, -some       a line of the listing, written to a lent buffer
 -- Assumes nothing.
 use Prim.Native.Nat.{ℕ}
 use mathlib.Core.Path.{_≡_, refl, sym, ap, _∙_}
 use mathlib.Core.List.{List, _++_}
+use lib.Dec.{leb}
 use lib.ListN.{length, take, drop, take-append-drop}
 use Rattle.record.specs.declared.Slot.{Slot}
 use Rattle.walk.specs.declared.Walked.{Walked}
@@ -15,6 +17,8 @@ use Rattle.walk.proofs.FillLaws.{table-says}
 use Rattle.walker.specs.declared.Reply.{Reply}
 use Rattle.walker.specs.declared.Walker.{Walker}
 use Rattle.walker.specs.Walker.{replyBy, walkerBy, feedTo, closeTo, FeedSays, CloseSays}
+use Rattle.lines.specs.declared.Written.{Written}
+use Rattle.lines.specs.Line.{writtenBy, bufferBy, Writes}
 use Rattle.promises.proofs.Slots.{slots-kept}
 
 pub fill-one : (log : List ℕ) (old : List Slot) (r r′ : Walked) (slots slots′ : List Slot) → FillSays log old r slots → FillSays log old r′ slots′
@@ -49,3 +53,10 @@ close-one w hold r r′ v v′ a b = (a .0 ∙ sym (b .0), a .1 ∙ sym (b .1))
 
 pub close-some : (w : Walker) (hold : List ℕ) → CloseSays w hold (replyBy (closeTo w hold)) (walkerBy (closeTo w hold .walker))
 close-some w hold = (refl, refl)
+
+pub writes-one : (text old : List ℕ) (r r′ : Written) (new new′ : List ℕ) → Writes text old r new → Writes text old r′ new′ → (r ≡ r′) × (new ≡ new′)
+writes-one text old r r′ new new′ a b = (a .0 ∙ sym (b .0), a .1 ∙ sym (b .1))
+
+pub writes-some : (text old : List ℕ)
+    → Writes text old (writtenBy (leb (length text) (length old)) text) (bufferBy (leb (length text) (length old)) text old)
+writes-some text old = (refl, refl)
