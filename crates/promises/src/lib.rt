@@ -1,2 +1,3 @@
 // What a customer is promised, as theorems. There is no code here: what the theorems speak of is in
-// specs/, in the order Whole, Met, Divides, and the theorems in proofs/, named in proofs/Lib.antt.
+// specs/, in the order Whole, Met, Divides, Bench, Runs, and the theorems in proofs/, named in
+// proofs/Lib.antt. docs/PROMISES.md leads through them.
