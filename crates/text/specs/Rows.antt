@@ -1,4 +1,4 @@
--- Sequences by a table of rows, as Unicode states its encoding forms: a row has a range for each place of a sequence.
+-- Sequences by a table of rows, as the Unicode Standard, section 3.9, states its encoding forms: a row has a range for each place of a sequence.
 --   low ·· high        the values from low to high, both among them
 --   inside r x         x is in the range r
 --   opens row s        s begins with a sequence of the row
