@@ -10,21 +10,25 @@ fed or made up; paths, GPT data and texts, damaged. The lines are compared whole
 import collections
 import random
 import shlex
-import subprocess
 import sys
 
-import bench_model as model
 import bench_sample as sample
-from bench_sample import C, F, G, H, L, N, P, U, W, X, agile, c, f, marker, sha1, u16, u32
-
+from bench_model import Bench
+from maker import C, F, G, H, L, N, P, U, W, X, agile, c, edited, f, u16, u32, variable, wide
+from oracle import run
 
 SIZES = {4: 20, 0xB: 32, 0xC: 48}
 SOUND = [
-    (1, b"abc\0"), (0xD, b""), (0x80000007, "Ünï€𝄞".encode()), (8, sample.wide("a\0")), (8, b""), (4, bytes(4)), (4, b"\xFF" * 4), (4, b"abc"),
+    (1, b"abc\0"), (0xD, b""), (0x80000007, "Ünï€𝄞".encode()), (8, wide("a\0")), (8, b""), (4, bytes(4)), (4, b"\xFF" * 4), (4, b"abc"),
     (3, sample.spec_id()), (5, b""), (0x12, b"abc"), (0x80000009, bytes(16)), (0x80000008, bytes(16)), (0x80000001, bytes(32)),
-    (0x800000E0, sample.variable(sample.wide("db"), b"x")), (0x80000003, sample.image(sample.PATH, b"x")), (0x80000005, sample.image(b"")),
+    (0x800000E0, variable("db", b"x")), (0x80000003, sample.image(sample.PATH, b"x")), (0x80000005, sample.image()),
     (0x80000006, sample.TWO_ENTRIES), (0x80000006, sample.header() + bytes(40)), (0xFFFFFFFF, b"?"),
 ]
+
+
+def damaged(r, b):
+    """Most often as it is."""
+    return edited(r, b) if r.randrange(4) == 0 else b
 
 
 def a_record(r, is_agile):
@@ -32,31 +36,19 @@ def a_record(r, is_agile):
     event, data = r.choice(SOUND)
     if r.randrange(15) == 0:
         data = r.choice(SOUND)[1]
+    register = r.randrange(24)
     if not is_agile:
-        return sha1(r.randrange(24), event, data)
+        return sample.sha1(event, data, register)
     ids = r.choices((4, 0xB, 0xC, 0xD, 0x12), (98, 98, 98, 3, 3), k=r.randrange(4))
-    return agile(r.randrange(24), event, [(id, bytes(SIZES.get(id, 0))) for id in ids], data)
-
-
-def damaged(r, b):
-    """Most often as it is; else with a byte changed or taken out, or cut."""
-    way = r.randrange(12)
-    if not b or way > 3:
-        return b
-    at = r.randrange(len(b))
-    if way == 0:
-        return b[:at]
-    if way == 1:
-        return b[:at] + b[at + 1:]
-    byte = r.choice((0, 1, 2, 4, 255, b[at] ^ 1, r.randrange(256)))
-    return b[:at] + bytes([byte]) + b[at + 1:]
+    return agile(event, [(id, bytes(SIZES.get(id, 0))) for id in ids], data, register)
 
 
 def a_log(r):
-    is_agile = r.random() < 0.7
-    start = damaged(r, marker((4, 20), (0xB, 32), (0xC, 48), (0xB, 32), vendor=b"v" * r.randrange(3))) if is_agile else b""
+    is_agile, pairs = r.random() < 0.7, ((4, 20), (0xB, 32), (0xC, 48), (0xB, 32))
+    start = sample.marker(*pairs * r.choice((1,) * 19 + (5,)), vendor=b"v" * r.randrange(3), uintn=r.choice((2,) * 39 + (1,)))
+    start = damaged(r, start) if is_agile else b""
     rest = [a_record(r, is_agile) for _ in range(r.choice((0, 1, 2, 3, 5, 66)))]
-    return damaged(r, start + b"".join(damaged(r, x) if r.random() < 0.05 else x for x in rest) + bytes(r.randrange(5)))
+    return damaged(r, start + b"".join(edited(r, x) if r.random() < 0.02 else x for x in rest) + bytes(r.randrange(5)))
 
 
 def a_walker(r):
@@ -72,26 +64,23 @@ def piece_of(r, log):
     return log[:r.choice((0, 1, 2, 4, 8, 20, 28, 32, 36, 60, len(log), len(log), r.randrange(len(log) + 1)))]
 
 
-def fed(r, bench):
+def fed(r):
     """A walker and a log in pieces: what a feed leaves is fed again, as the model tells."""
-    out = [N]
+    out, log, bench = [N], a_log(r), Bench()
     if r.random() < 0.4:
-        front = r.choice((sample.SEPARATOR, sample.AGILE[:100], sha1(0, 8, b"abc"), bytes(200), agile(0, 5, [(4, bytes(20))], b"")))
+        front = r.choice((sample.SEPARATOR, sample.AGILE[:100], sample.sha1(8, b"abc"), bytes(200), agile(5, [(4, bytes(20))], b"")))
         out += [H(r.choice((32767, 32768, 40000, 65536)), front), a_walker(r)]
-    log = a_log(r)
+    list(bench.run(b"".join(out)))
     for _ in range(r.randrange(12)):
-        piece = piece_of(r, log)
-        out.append(r.choice((F, f))(piece) if r.random() < 0.93 else r.choice((C, c)))
-        bench.input, bench.at = b"".join(out), 0
-        bench.fresh()
-        last = [line for line in bench.run() if line.startswith("fed ")][-1]
-        log = log[int(last.split()[1]):]
+        out.append(r.choice((F, f))(piece_of(r, log)) if r.random() < 0.93 else r.choice((C, c)))
+        told = next(bench.run(out[-1]))
+        log = log[int(told.split()[1]):]
     return out + [r.choice((C, c)) for _ in range(r.randrange(3))]
 
 
 def read(r):
-    path, table = damaged(r, damaged(r, sample.PATH)), damaged(r, damaged(r, sample.TWO_ENTRIES + bytes(r.choice((0, 1, 2, 128)))))
-    text = r.choice((b"abc\0", "Ünï€𝄞\0".encode(), sample.wide("𝄞a\0"), b"\xED\x9F\xBF", u16(0xD800) + u16(0xDFFF)))
+    path, table = damaged(r, sample.PATH), damaged(r, sample.TWO_ENTRIES + bytes(r.choice((0, 1, 2, 128))))
+    text = r.choice((b"abc\0", "Ünï€𝄞\0".encode(), wide("𝄞a\0"), b"\xED\x9F\xBF", u16(0xD800) + u16(0xDFFF)))
     return [P(r.choice((0, 1, 3, 9, 10)), path), G(r.randrange(3), table), U(damaged(r, text)), X(damaged(r, text))]
 
 
@@ -99,30 +88,28 @@ def bad(r):
     """A command that is unknown, cut short, or has a field outside its values; sometimes none."""
     return r.choice((
         b"", b"Z", b"\0", L(65, b""), L(64, b"abc")[:-1], L(64, b"")[:-1], W()[:-1], W(kind=3), W(kept=3), W(kept=2), W(kept=2, number=15),
-        H(65537, b""), H(2, b"abc"), H(9, b"abc")[:-1], F(b"abc")[:-2], f(b"abc")[:3], b"F" + u32(131073) + bytes(131073), P(0, b"abc")[:-1],
+        H(65537, b""), H(2, b"abc"), H(9, b"abc")[:-1], F(b"abc")[:-2], f(b"abc")[:3], F(bytes(131073)), P(0, b"abc")[:-1],
         G(0, b"abc")[:-1], U(b"abc")[:-1], X(b"abc")[:-1], b"P", b"U" + u32(0xFFFFFFFF), F(bytes(131072)), U(bytes(131072)),
     ))
 
 
 def main():
-    if len(sys.argv) < 3:
+    if not 3 <= len(sys.argv) <= 4:
         sys.exit(__doc__)
     program, runs, r = shlex.split(sys.argv[1]), int(sys.argv[2]), random.Random(int(sys.argv[3]) if len(sys.argv) > 3 else 1)
-    bench, seen, differ = model.Bench(b""), collections.Counter(), 0
-    for run in range(runs):
-        commands = [L(r.randrange(65), a_log(r)) for _ in range(5)] + fed(r, bench) + read(r) + fed(r, bench)
-        given = b"".join(commands) + bad(r)
-        ours = subprocess.run(program, input=given, stdout=subprocess.PIPE, check=True).stdout.decode().splitlines()
-        theirs = list(model.Bench(given).run())
-        seen.update("refused " + line.split("refused ")[1].split()[0] for line in theirs if "refused " in line)
+    seen, differ = collections.Counter(), 0
+    for number in range(runs):
+        commands = b"".join([L(r.randrange(65), a_log(r)) for _ in range(5)] + fed(r) + read(r) + fed(r)) + bad(r)
+        ours, theirs = run(program, commands).splitlines(), list(Bench().run(commands))
+        seen.update(int(line.split("refused ")[1].split()[0]) for line in theirs if "refused " in line)
         seen["lines"] += len(theirs)
         if ours != theirs:
             differ += 1
             at = next((i for i, pair in enumerate(zip(ours, theirs)) if pair[0] != pair[1]), min(len(ours), len(theirs)))
-            print(f"run {run}, line {at}: ours {ours[at:at + 1]}, the model's {theirs[at:at + 1]}")
-    print(f"{runs} runs, {seen.pop('lines')} lines, {differ} differ; "
-          + ", ".join(f"{k} {n}" for k, n in sorted(seen.items(), key=lambda x: int(x[0].split()[1]))))
-    sys.exit(1 if differ else 0)
+            print(f"run {number}, line {at}: ours {ours[at:at + 1]}, the model's {theirs[at:at + 1]}")
+    print(f"{runs} runs, {seen.pop('lines')} lines, {differ} differ; refused " + ", ".join(f"{k}: {n}" for k, n in sorted(seen.items())))
+    return 1 if differ else 0
 
 
-main()
+if __name__ == "__main__":
+    sys.exit(main())

@@ -15,7 +15,6 @@ records and the sum of all their numbers that the oracle's lines have, and so mu
 It ends with 1 if a bound is missed: the walk takes over twice the time of the Rust on a real log or on small records, a feed in one piece
 over twice the time of the walk, or a digest of 16,000 over 1.3 times the time of one of 4,000.
 """
-import argparse
 import os
 import re
 import struct
@@ -24,12 +23,11 @@ import sys
 import tempfile
 
 import compare_logs
-from compare import oracle, program
-from contents_answers import SMALLEST, agile, record, sample, spec
+from maker import ACTION, SEPARATOR, SHA1, SHA256, SMALLEST, TEXT, WIDE_TEXT, WITH_TWO, agile, marker, real_logs, sample, sha1, wide
+from model import LOG_MOST
+from oracle import arguments, driver_of, program, run
 
-LOG_MOST = 65536
 ROUNDS, SECONDS = 5, 0.35
-NO_ACTION, NONE, SEPARATOR, UTF8, WIDE = 3, 5, 4, 1, 8
 WALK, ONE_PIECE = 0, LOG_MOST
 TWO_REAL = ("qemu-b-ovmf2022-gptdisk-grub206-crb-sha1+sha256.bin", "pkg-goeventlog-tpm-ubuntu-2404-amd-sevsnp.bin")
 
@@ -41,41 +39,31 @@ def filled(head, one):
     return head + one * ((LOG_MOST - len(head)) // len(one))
 
 
-def texts(ty, text):
+def texts(event, text):
     """Two records of text that fill a log. The text's length divides 32,736."""
-    return 2 * record(ty, text * (32736 // len(text)))
+    return 2 * sha1(event, text * (32736 // len(text)))
 
 
 SMALL = {
-    "agile, no digest, no data": filled(SMALLEST, agile(NONE, [], b"")),
-    "SHA-1, no data": filled(b"", record(NONE, b"")),
-    "agile, two digests, 4 bytes of data": filled(compare_logs.WITH_TWO, agile(SEPARATOR, [(4, sample(20)), (0xB, sample(32))], bytes(4))),
+    "agile, no digest, no data": filled(SMALLEST, agile(ACTION, [], b"")),
+    "SHA-1, no data": filled(b"", sha1(ACTION, b"")),
+    "agile, two digests, 4 bytes of data": filled(WITH_TWO, agile(SEPARATOR, [(SHA1, sample(20)), (SHA256, sample(32))], bytes(4))),
 }
-TEXT = {
-    "UTF-8, one byte a character": texts(UTF8, b"abcdefghijkl"),
-    "UTF-8, two to four bytes a character": texts(UTF8, ("\u20ac\u4e2d\U0001F600\U00020000" + 9 * "\u00e9").encode()),
-    "wide text": texts(WIDE, "abcdef".encode("utf-16le")),
+TEXTS = {
+    "UTF-8, one byte a character": texts(TEXT, b"abcdefghijkl"),
+    "UTF-8, two to four bytes a character": texts(TEXT, ("\u20ac\u4e2d\U0001F600\U00020000" + 9 * "\u00e9").encode()),
+    "wide text": texts(WIDE_TEXT, wide("abcdef")),
 }
 
 
 def digests(count):
     """A record of so many digests of size zero: the most fields to its bytes."""
-    return record(NO_ACTION, spec([(0xB, 0)])) + agile(SEPARATOR, [(0xB, b"")] * count, bytes(4))
+    return marker((SHA256, 0)) + agile(SEPARATOR, [(SHA256, b"")] * count, bytes(4))
 
 
-def real_log(folder, name):
-    with open(os.path.join(folder, "logs", name), "rb") as f:
-        return f.read()
-
-
-def real_logs(folder, driver):
-    """Those of at most 65,536 bytes of which more than 16 KiB are read."""
-    logs = {}
-    for name in sorted(os.listdir(os.path.join(folder, "logs"))):
-        log = real_log(folder, name)
-        if name.endswith(".bin") and len(log) <= LOG_MOST and read_to(driver, log) > 16384:
-            logs[name[:-4]] = log
-    return logs
+def long_logs(folder, driver):
+    """The real logs of at most 65,536 bytes of which more than 16 KiB are read."""
+    return {name[:-4]: log for name, log in real_logs(folder).items() if len(log) <= LOG_MOST and read_to(driver, log) > 16384}
 
 
 # ---------------------------------------------------------------- the stored run
@@ -88,9 +76,9 @@ def stored_tasks():
     """A real log, one with every kind of contents, a refused one, small ones; and at the end a task that is too long."""
     with open("crates/list/stdin", "rb") as f:
         real = f.read()
-    every = compare_logs.WITH_TWO + b"".join(agile(ty, [(4, sample(20))], data) for ty, data in compare_logs.SOUND) + b"\1\2"
-    refused = record(NONE, b"abc") + record(SEPARATOR, b"\xff" * 4) + record(*compare_logs.FAULTY[12])
-    for log in (real, every, refused, record(SEPARATOR, bytes(4)) + b"\7", digests(20), bytes(3), b""):
+    every = WITH_TWO + b"".join(agile(event, [(SHA1, sample(20))], data) for event, data in compare_logs.SOUND) + b"\1\2"
+    refused = sha1(ACTION, b"abc") + sha1(SEPARATOR, b"\xff" * 4) + sha1(*compare_logs.FAULTY[12])
+    for log in (real, every, refused, sha1(SEPARATOR, bytes(4)) + b"\7", digests(20), bytes(3), b""):
         for size in (WALK, ONE_PIECE, 16, 1):
             yield task(size, 1, log)
     yield task(WALK, 3, real) + task(256, 2, real) + task(WALK, 0, real)
@@ -112,7 +100,7 @@ def check_stored(driver):
 # ---------------------------------------------------------------- what a line must say
 
 def lines_of(driver, log):
-    return subprocess.run([driver, "detail"], input=log, stdout=subprocess.PIPE, check=True).stdout.decode().splitlines()
+    return run([driver, "detail"], log).splitlines()
 
 
 def read_to(driver, log):
@@ -121,7 +109,7 @@ def read_to(driver, log):
     return int(last[1]) if last else 0
 
 
-def said(driver, log):
+def records_and_sum(driver, log):
     """How many records the oracle's lines have, and the sum of the numbers in them; the word `bios` counts 1."""
     lines = lines_of(driver, log)[1:-1]
     return len(lines), sum(int(n) for line in lines for n in re.findall(r"\d+", line)) + sum(line.endswith("bios") for line in lines)
@@ -129,7 +117,7 @@ def said(driver, log):
 
 def check(driver, log, size, times, line):
     """Holds a line of our program to the oracle; gives the records of one walk."""
-    records, total = said(driver, log)
+    records, total = records_and_sum(driver, log)
     word = f"pieces of {size}" if size else "walk"
     calls = str((records + 1) * times) if size == WALK else r"\d+"
     if not re.fullmatch(f"{word} bytes {len(log)} times {times} calls {calls} records {records * times} sum {total * times % 2**64}", line):
@@ -247,7 +235,7 @@ def many_digests(ours, driver, missed):
 
 def by_pieces(ours, driver, folder):
     """Pieces of several sizes over two real logs, and how many times the time of one piece that is."""
-    logs = [real_log(folder, name) for name in TWO_REAL]
+    logs = [real_logs(folder)[name] for name in TWO_REAL]
     table("Two real logs by pieces", "pieces of", *(f"{name[:-4]}, {len(log):,} bytes, µs" for name, log in zip(TWO_REAL, logs)))
     sizes = (ONE_PIECE, 4096, 256, 16, 1)
     columns = [measured(*(Ours(ours, driver, log, size) for size in sizes)) for log in logs]
@@ -256,27 +244,25 @@ def by_pieces(ours, driver, folder):
 
 
 def main():
-    ways = argparse.ArgumentParser(description="Measures our reader against the Rust.")
-    ways.add_argument("folder", nargs="?", default="../shared")
-    ways.add_argument("--speed")
-    ways.add_argument("--oracle")
+    ways = arguments(__doc__)
+    ways.add_argument("--speed", metavar="COMMAND")
     ways.add_argument("--gate", action="store_true")
     given = ways.parse_args()
     if given.gate:
         with open("crates/speed/stdin", "wb") as f:
             f.write(b"".join(stored_tasks()))
-        return
-    ours, driver, missed = program("speed", given.speed), oracle(given.oracle, given.folder), []
+        return 0
+    ours, driver, missed = program("speed", given.speed), driver_of(given), []
     check_stored(driver)
-    together = whole(ours, driver, "Real logs", real_logs(given.folder, driver), missed)
+    together = whole(ours, driver, "Real logs", long_logs(given.folder, driver), missed)
     whole_row("all together", "", "", together)
     whole(ours, driver, "Small records", SMALL, missed)
-    whole(ours, driver, "Text", TEXT, missed, bound=float("inf"))
+    whole(ours, driver, "Text", TEXTS, missed, bound=float("inf"))
     many_digests(ours, driver, missed)
     by_pieces(ours, driver, given.folder)
     print("".join(f"\nmissed: {bound}" for bound in missed))
-    sys.exit(1 if missed else 0)
+    return 1 if missed else 0
 
 
 if __name__ == "__main__":
-    main()
+    sys.exit(main())

@@ -1,24 +1,16 @@
 // The commands that make, feed and close a walker: N, W, H, F, f, C and c.
-use crate::input;
-use crate::input::Field;
-use crate::input::Given;
 use crate::made_up;
-use crate::replies;
-use crate::replies::HOLD_MOST;
 use crate::state;
 use crate::state::State;
-use number::Span;
+use harness::forms;
+use harness::forms::Form;
+use harness::input;
+use harness::input::Field;
+use harness::input::Given;
+use harness::replies;
+use harness::replies::HOLD_MOST;
+use numbers::Span;
 use refusal::HOLD_FULL;
-use walker::Fed;
-use walker::Walker;
-ghost use Prim.Native.Nat.{_≤_};
-
-// Which form of a call is made.
-pub enum Form {
-    Value,
-    // Where the walker lies.
-    Place,
-}
 
 fn clear(hold: &mut [u8]) {
     let mut i: usize = 0;
@@ -69,24 +61,11 @@ pub fn sized(s: State, hold: &mut [u8]) -> State {
     state::after(state::with_size(s, size as usize), 9, given)
 }
 
-fn least(a: usize, b: usize) -> usize
-    ensures { λ r. ⌜ r ≤ b ⌝ }
-{
-    if a < b { a } else { b }
-}
-
-fn fed_by(form: Form, w: Walker, hold: &mut [u8], piece: &[u8]) -> Fed {
-    match form {
-        Form::Value => walker::feed(w, hold, piece),
-        Form::Place => walker::feed_through(w, hold, piece),
-    }
-}
-
 // Feeds a piece to the walker, with so much of the buffer as the hold has.
 fn fed_piece(form: Form, s: State, piece: &[u8], hold: &mut [u8]) -> State {
     let walker = s.walker;
-    let size = least(s.size, hold.len());
-    let fed = fed_by(form, walker, &mut hold[..size], piece);
+    let size = numbers::least(s.size, hold.len());
+    let fed = forms::feed(form, walker, &mut hold[..size], piece);
     replies::lines(fed, &hold[..size]);
     let next = fed.walker;
     state::with_walker(s, next)
@@ -96,21 +75,14 @@ pub fn feed(form: Form, s: State, data: &mut [u8], hold: &mut [u8]) -> State {
     let Given::Bytes(n) = input::counted(data) else {
         return state::bad(s);
     };
-    let piece = number::part(data, Span { at: 0, len: n });
+    let piece = numbers::part(data, Span { at: 0, len: n });
     state::after(fed_piece(form, s, piece, hold), 5, Given::Bytes(n))
-}
-
-fn closed_by(form: Form, w: Walker, hold: &[u8]) -> Fed {
-    match form {
-        Form::Value => walker::close(w, hold),
-        Form::Place => walker::close_through(w, hold),
-    }
 }
 
 pub fn close(form: Form, s: State, hold: &[u8]) -> State {
     let walker = s.walker;
-    let size = least(s.size, hold.len());
-    let fed = closed_by(form, walker, &hold[..size]);
+    let size = numbers::least(s.size, hold.len());
+    let fed = forms::close(form, walker, &hold[..size]);
     replies::lines(fed, &hold[..size]);
     let next = fed.walker;
     state::past(state::with_walker(s, next), 1)

@@ -1,6 +1,7 @@
 // The command W: a walker made up of numbers.
 use record::Kind;
 use record::Shape;
+use refusal::Ending;
 use refusal::PAIRS_MOST;
 use refusal::Refusal;
 use refusal::Why;
@@ -32,11 +33,11 @@ pub const FIELDS: usize = 107;
 // Whether kind, kept and number are such as a walker has. The number is looked at only where a
 // refusal is kept.
 pub fn is_sound(b: &[u8]) -> bool {
-    let number = number::byte(b, NUMBER);
-    if 2 < number::byte(b, KIND) || 2 < number::byte(b, KEPT) {
+    let number = numbers::byte(b, NUMBER);
+    if 2 < numbers::byte(b, KIND) || 2 < numbers::byte(b, KEPT) {
         return false;
     }
-    if number::byte(b, KEPT) < 2 {
+    if numbers::byte(b, KEPT) < 2 {
         return true;
     }
     0 < number && number <= 14
@@ -72,11 +73,11 @@ fn why_of(n: u8) -> Why {
 fn kept_of(kept: u8, number: u8, a: usize, b: usize) -> Kept {
     match kept {
         0 => Kept::Open,
-        1 => Kept::End(a, b),
-        _ => Kept::Refused(Refusal {
+        1 => Kept::Stopped(Ending::End { at: a, tail: b }),
+        _ => Kept::Stopped(Ending::Refused(Refusal {
             why: why_of(number),
             at: a,
-        }),
+        })),
     }
 }
 
@@ -84,8 +85,8 @@ fn pair_at(b: &[u8], i: usize) -> Pair
     requires { ⌜ i ≤ 16 ⌝ }
 {
     Pair {
-        id: number::le16(b, PAIRS + 4 * i),
-        size: number::le16(b, PAIRS + 2 + 4 * i),
+        id: numbers::le16(b, PAIRS + 4 * i),
+        size: numbers::le16(b, PAIRS + 2 + 4 * i),
     }
 }
 
@@ -100,20 +101,20 @@ fn pairs_of(b: &[u8]) -> [Pair; PAIRS_MOST] {
 }
 
 pub fn walker_of(b: &[u8]) -> Walker {
-    let a = number::le64(b, FIRST) as usize;
-    let tail = number::le64(b, SECOND) as usize;
+    let a = numbers::le64(b, FIRST) as usize;
+    let tail = numbers::le64(b, SECOND) as usize;
     let table = pairs_of(b);
     let shape = Shape {
-        kind: kind_of(number::byte(b, KIND)),
+        kind: kind_of(numbers::byte(b, KIND)),
         pairs: Pairs {
             table,
-            count: number::le64(b, COUNT) as usize,
+            count: numbers::le64(b, COUNT) as usize,
         },
     };
     Walker {
-        held: number::le64(b, 0) as usize,
-        total: number::le64(b, TOTAL) as usize,
+        held: numbers::le64(b, 0) as usize,
+        total: numbers::le64(b, TOTAL) as usize,
         shape,
-        kept: kept_of(number::byte(b, KEPT), number::byte(b, NUMBER), a, tail),
+        kept: kept_of(numbers::byte(b, KEPT), numbers::byte(b, NUMBER), a, tail),
     }
 }

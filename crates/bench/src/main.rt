@@ -1,28 +1,23 @@
 // Drives every entry point by commands on standard input, and writes a line for each answer.
 // README.md has the commands and the exact text of every line.
 mod feeds;
-mod input;
-mod items;
 mod made_up;
-mod print;
-mod readers;
-mod replies;
-mod slots;
 mod state;
-mod walks;
 
-use feeds::Form;
-use input::Letter;
-use replies::HOLD_MOST;
+use bench_reads::readers;
+use bench_reads::walks;
+use harness::forms::Form;
+use harness::input;
+use harness::input::Letter;
+use harness::replies::HOLD_MOST;
 use state::State;
 
 // The most bytes that a command gives behind its fields.
 const DATA_MOST: usize = 131072;
 
-// The rest of a command by its letter, and the state after it.
-fn command(letter: u8, s: State, data: &mut [u8], hold: &mut [u8]) -> State {
+// The rest of a command that makes, feeds or closes a walker, and the state after it.
+fn feeding(letter: u8, s: State, data: &mut [u8], hold: &mut [u8]) -> State {
     match letter {
-        b'L' => state::after(s, 9, walks::whole(data)),
         b'N' => feeds::fresh(s, hold),
         b'W' => feeds::made(s),
         b'H' => feeds::sized(s, hold),
@@ -30,11 +25,19 @@ fn command(letter: u8, s: State, data: &mut [u8], hold: &mut [u8]) -> State {
         b'f' => feeds::feed(Form::Place, s, data, hold),
         b'C' => feeds::close(Form::Value, s, hold),
         b'c' => feeds::close(Form::Place, s, hold),
+        _ => state::bad(s),
+    }
+}
+
+// The rest of a command by its letter, and the state after it.
+fn command(letter: u8, s: State, data: &mut [u8], hold: &mut [u8]) -> State {
+    match letter {
+        b'L' => state::after(s, 9, walks::whole(data)),
         b'P' => state::after(s, 9, readers::node(data)),
         b'G' => state::after(s, 9, readers::entry(data)),
         b'U' => state::after(s, 5, readers::checked_text(data, false)),
         b'X' => state::after(s, 5, readers::checked_text(data, true)),
-        _ => state::bad(s),
+        _ => feeding(letter, s, data, hold),
     }
 }
 

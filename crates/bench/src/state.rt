@@ -1,6 +1,6 @@
 // What a run carries from command to command.
-use crate::input::Given;
-use crate::print;
+use harness::input::Given;
+use harness::print;
 use refusal::HOLD_FULL;
 use walker::Walker;
 
@@ -38,8 +38,7 @@ pub fn stopped(s: State) -> State {
 }
 
 pub fn bad(s: State) -> State {
-    print::number(b"bad command at ", s.at);
-    print::say(b"\n");
+    print::line(b"bad command at #\n", &[s.at]);
     stopped(s)
 }
 

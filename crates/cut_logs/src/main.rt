@@ -1,11 +1,12 @@
 // Feeds the logs on standard input to a walker, cut in many ways, and holds each answer to the walk
 // of the whole log. README.md has the ways and the layout of the input.
-mod cut;
 mod run;
-mod same;
 mod ways;
 
-use number::Span;
+use harness::input;
+use harness::input::Input;
+use harness::print;
+use numbers::Span;
 use refusal::HOLD_FULL;
 use refusal::LOG_MOST;
 use ways::Tally;
@@ -15,13 +16,6 @@ const LOGS_MOST: usize = 4294967295;
 
 const SEED: u64 = 88172645463325252;
 
-enum Input {
-    Log(usize),
-    End,
-    Short,
-    Long,
-}
-
 // The logs so far.
 struct Totals {
     bytes: usize,
@@ -30,48 +24,43 @@ struct Totals {
     calls: usize,
     differ: usize,
     random: u64,
-}
-
-fn say(s: &[u8]) {
-    io::write_all(1, s);
-}
-
-fn number(before: &[u8], n: usize) {
-    say(before);
-    io::print_decimal(1, n as u64);
+    // There may be a further log.
+    open: bool,
 }
 
 fn verdict(t: Tally) {
     if t.agrees {
-        return say(b" agree\n");
+        return print::say(b" agree\n");
     }
-    number(b" differ at way ", t.ways);
-    number(b" call ", t.at);
-    say(b"\n");
+    print::line(b" differ at way # call #\n", &[t.ways as u64, t.at as u64]);
 }
 
 fn line(index: usize, bytes: usize, t: Tally) {
-    number(b"log ", index);
-    number(b" bytes ", bytes);
-    number(b" records ", t.records);
-    number(b" ways ", t.ways);
-    number(b" calls ", t.calls);
+    print::line(
+        b"log # bytes # records # ways # calls #",
+        &[
+            index as u64,
+            bytes as u64,
+            t.records as u64,
+            t.ways as u64,
+            t.calls as u64,
+        ],
+    );
     verdict(t);
 }
 
 fn last_line(logs: usize, t: Totals) {
-    number(b"logs ", logs);
-    number(b" bytes ", t.bytes);
-    number(b" records ", t.records);
-    number(b" ways ", t.ways);
-    number(b" calls ", t.calls);
-    number(b" differ ", t.differ);
-    say(b"\n");
-}
-
-fn stopped(before: &[u8], index: usize) {
-    number(before, index);
-    say(b"\n");
+    print::line(
+        b"logs # bytes # records # ways # calls # differ #\n",
+        &[
+            logs as u64,
+            t.bytes as u64,
+            t.records as u64,
+            t.ways as u64,
+            t.calls as u64,
+            t.differ as u64,
+        ],
+    );
 }
 
 fn add(a: usize, b: usize) -> usize {
@@ -87,34 +76,7 @@ fn added(t: Totals, bytes: usize, of: Tally) -> Totals {
         calls: add(t.calls, of.calls),
         differ: add(t.differ, differ),
         random: of.random,
-    }
-}
-
-// Reads n bytes, and answers whether there were so many.
-fn fill(buf: &mut [u8], n: usize) -> bool {
-    if buf.len() < n {
-        return false;
-    }
-    io::read_full(0, &mut buf[..n]) == n
-}
-
-fn next_log(buf: &mut [u8]) -> Input {
-    let mut four = [0u8; 4];
-    let n = io::read_full(0, &mut four);
-    if n == 0 {
-        return Input::End;
-    }
-    let len = number::le32(&four, 0) as usize;
-    if n < 4 {
-        return Input::Short;
-    }
-    if LOG_MOST < len {
-        return Input::Long;
-    }
-    if fill(buf, len) {
-        Input::Log(len)
-    } else {
-        Input::Short
+        open: true,
     }
 }
 
@@ -125,6 +87,26 @@ fn compare(log: &[u8], hold: &mut [u8], index: usize, t: Totals) -> Totals {
     added(t, log.len(), of)
 }
 
+fn stopped(t: Totals) -> Totals {
+    let mut last = t;
+    last.open = false;
+    last
+}
+
+// The next log, or what there is to say where none starts.
+fn next(buf: &mut [u8], hold: &mut [u8], index: usize, t: Totals) -> Totals {
+    match input::next_log(buf) {
+        Input::Log(len) => {
+            let log = numbers::part(buf, Span { at: 0, len });
+            return compare(log, hold, index, t);
+        }
+        Input::End => last_line(index, t),
+        Input::Short => print::line(b"standard input ends inside log #\n", &[index as u64]),
+        Input::Long => print::line(b"over 65536 bytes: log #\n", &[index as u64]),
+    }
+    stopped(t)
+}
+
 fn logs(buf: &mut [u8], hold: &mut [u8]) {
     let mut t = Totals {
         bytes: 0,
@@ -133,19 +115,11 @@ fn logs(buf: &mut [u8], hold: &mut [u8]) {
         calls: 0,
         differ: 0,
         random: SEED,
+        open: true,
     };
     let mut i: usize = 0;
-    while i < LOGS_MOST {
-        let input = next_log(buf);
-        match input {
-            Input::Log(len) => {
-                let log = number::part(buf, Span { at: 0, len });
-                t = compare(log, hold, i, t);
-            }
-            Input::End => return last_line(i, t),
-            Input::Short => return stopped(b"standard input ends inside log ", i),
-            Input::Long => return stopped(b"over 65536 bytes: log ", i),
-        }
+    while i < LOGS_MOST && t.open {
+        t = next(buf, hold, i, t);
         i += 1;
     }
 }

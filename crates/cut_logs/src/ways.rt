@@ -1,7 +1,8 @@
 // All the ways in which a log is fed, by its length.
-use crate::cut::Cutting;
 use crate::run;
 use crate::run::Way;
+use cuts::cut::Cutting;
+use harness::forms::Form;
 
 // The longest log that is cut at every pair of places, and the longest that is cut at every place.
 const PAIRS_MOST: usize = 60;
@@ -45,12 +46,12 @@ fn one(log: &[u8], hold: &mut [u8], way: Way, t: Tally) -> Tally {
 fn both(log: &[u8], hold: &mut [u8], cutting: Cutting, scribbled: usize, t: Tally) -> Tally {
     let by_value = Way {
         cutting,
-        in_place: false,
+        form: Form::Value,
         scribbled: 0,
     };
     let in_place = Way {
         cutting,
-        in_place: true,
+        form: Form::Place,
         scribbled,
     };
     let mut first = one(log, hold, by_value, t);

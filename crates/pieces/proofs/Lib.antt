@@ -5,6 +5,7 @@
 --                  what it takes and writes, and that it repeats itself after a stop
 -- For a format: give its plan, and take the laws from `read-steady` and `read-within`. Toy is a whole instance, with worked cases.
 --   PlanLaws       reading by any plan keeps the laws; the cases of a field; invariants of its records and refusals
+--   FieldLaws      reading by a plan where the bytes are known field by field
 --   VerdictLaws    what follows at once from the laws
 -- For the code of a walk, of slots and of a feed:
 --   WalkLaws       the walk's equation and its cases, induction by records, logs past the limit
@@ -20,6 +21,7 @@ pub mod Agreement
 pub mod Promptness
 pub mod Toy
 pub mod PlanLaws
+pub mod FieldLaws
 pub mod VerdictLaws
 pub mod WalkLaws
 pub mod SlotLaws

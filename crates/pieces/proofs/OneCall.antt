@@ -14,27 +14,31 @@ use native.Mathlib.Omega.{arith}
 use native.Mathlib.Nat.{add-zero}
 use lib.ListN.{length, take, drop, length-append, length-drop, drop-of-length-le}
 use lib.Seq.{paste, take-paste, take-all, take-take, take-append-le, drop-append-le, drop-at, drop-drop}
-use Rattle.number.specs.Range.{partOf}
-use Rattle.number.proofs.ByCases.{split, both}
-use Rattle.number.proofs.RangeLaws.{length-part, part-add}
-use Rattle.refusal.specs.declared.Why.{Why}
-use Rattle.pieces.specs.Verdict.{Verdict, more, sound, bad, Judge, decided, Steady}
-use Rattle.pieces.specs.Walk.{Ending, refused, closing, add, walk}
+use Rattle.numbers.specs.Range.{partOf}
+use Rattle.numbers.proofs.ByCases.{split, both}
+use Rattle.numbers.proofs.RangeLaws.{length-part, part-add}
+use Rattle.refusal.specs.declared.Ending.{Ending}
+use Rattle.refusal.specs.declared.Refusal.{Refusal}
+use Rattle.refusal.specs.Endings.{endingIn}
+use Rattle.pieces.specs.Verdict.{Verdict, more, sound, refused, Judge, decided}
+use Rattle.pieces.specs.Walk.{add, walk}
 use Rattle.pieces.specs.Taken.{taken, Least}
-use Rattle.pieces.specs.Feed.{Walker, gives, stops, wants, Outcome, start, fed, closed, feedOf, closeOf}
+use Rattle.pieces.specs.Feed.{Walker, gives, stops, wants, Outcome, start, fed, closed, feedOf, closeOf, Feedable}
 use Rattle.pieces.specs.Run.{join, after, Lent}
+use Rattle.pieces.specs.Prompt.{walkTo, Early, Before}
 use Rattle.pieces.proofs.VerdictLaws.{sound-all, waits-within}
-use Rattle.pieces.proofs.WalkLaws.{walk-more, walk-sound, walk-bad}
-use Rattle.pieces.proofs.Beginnings.{Early, Before, walkTo, walk-waits}
+use Rattle.pieces.proofs.WalkLaws.{walk-more, walk-sound, walk-refused}
+use Rattle.pieces.proofs.Beginnings.{walk-waits}
 use Rattle.pieces.proofs.TakenLaws.{taken-least, waits-all, none-before, taken-within}
 use Rattle.pieces.proofs.FeedLaws.{InRange, feed-passed, close-passed}
 use Rattle.pieces.proofs.RunLaws.{adds}
 
-module _ {Shape Rec : Type 0} (judge : Judge Shape Rec) (full most : ℕ) (wrong : Shape → Bool) (sh : Shape) (log : List ℕ) where
+module _ {Shape Rec : Type 0} (judge : Judge Shape Rec) (full most : ℕ) (wrong : ℕ → Shape → Bool) (sh : Shape) (log : List ℕ) where
   -- No call has stopped: the record in hand starts at `base`, the records rs were given, and the pieces ps are to come.
   pub record Open (base : ℕ) (rs : List Rec) (ps : List (List ℕ)) (w : Walker Shape) (last : List ℕ) : Type 0 where
     pub awake : w .kept ≡ none
-    pub fine : wrong (w .shape) ≡ false
+    -- the shape is right where the record in hand starts, and so at the total
+    pub fine : wrong base (w .shape) ≡ false
     pub place : w .total ≡ base + w .held
     pub reach : w .total ≤ length log
     pub todo : drop (w .total) log ≡ join ps
@@ -49,7 +53,7 @@ module _ {Shape Rec : Type 0} (judge : Judge Shape Rec) (full most : ℕ) (wrong
     pub ranged : (hold : List ℕ) → full ≤ length hold → InRange full most wrong w hold
 
   -- A call of outcome o to the open walker w stopped, where the records rs were given before.
-  pub record Stopping (rs : List Rec) (w : Walker Shape) (o : Outcome Shape Rec) : Type 0 where
+  pub record Stopping (rs : List Rec) (w : Walker Shape) (o : Outcome (Walker Shape) Rec) : Type 0 where
     pub ending : Ending
     pub says : o .answer ≡ stops ending
     pub shut : Shut ending (o .walker)
@@ -57,7 +61,7 @@ module _ {Shape Rec : Type 0} (judge : Judge Shape Rec) (full most : ℕ) (wrong
     pub final : (m : ℕ) → w .total + o .count ≤ m → walkTo judge sh log m ≡ record { records = rs; ending = ending }
 
   -- How it answered, fed p, with the pieces ps left to come.
-  pub data Next (rs : List Rec) (w : Walker Shape) (p : List ℕ) (ps : List (List ℕ)) (o : Outcome Shape Rec) : Type 0 where
+  pub data Next (rs : List Rec) (w : Walker Shape) (p : List ℕ) (ps : List (List ℕ)) (o : Outcome (Walker Shape) Rec) : Type 0 where
     next-gives : (r : Rec) → o .answer ≡ gives r → Open (o .walker .total) (rs ++ (r ∷ [])) ps (o .walker) (o .hold) → o .walker .held ≡ 0
         → 0 < o .count → take (w .held + o .count) (o .hold) ≡ partOf log (w .total - w .held) (w .held + o .count) → Next rs w p ps o
     next-wants : (base : ℕ) → o .answer ≡ wants → Open base rs ps (o .walker) (o .hold) → o .walker .held ≡ w .held + o .count
@@ -65,23 +69,20 @@ module _ {Shape Rec : Type 0} (judge : Judge Shape Rec) (full most : ℕ) (wrong
     next-stops : Stopping rs w o → Next rs w p ps o
 
   -- What it did, whatever it answered.
-  pub record Step (rs : List Rec) (w : Walker Shape) (p : List ℕ) (ps : List (List ℕ)) (o : Outcome Shape Rec) : Type 0 where
+  pub record Step (rs : List Rec) (w : Walker Shape) (p : List ℕ) (ps : List (List ℕ)) (o : Outcome (Walker Shape) Rec) : Type 0 where
     pub next : Next rs w p ps o
     pub sooner : (m : ℕ) → m < w .total + o .count → Before rs (walkTo judge sh log m)
     pub within : o .count ≤ length p
     pub bytes : take (o .count) p ≡ partOf log (w .total) (o .count)
     pub total : o .walker .total ≡ w .total + o .count
 
-  module _ (laws : (sh : Shape) (base : ℕ) → Steady (judge sh base))
-      (within : (sh : Shape) (base : ℕ) (p : List ℕ) (s e : ℕ) → judge sh base p ≡ more s e → e ≤ full)
-      (right : (sh : Shape) (base : ℕ) (p : List ℕ) (r : Rec) (n : ℕ) (next : Shape) → judge sh base p ≡ sound r n next → wrong sh ≡ false → wrong next ≡ false)
-      (short : length log ≤ most) where
+  module _ (able : Feedable judge full wrong) (short : length log ≤ most) where
     -- where the bytes from `base` on wait, the walk up to there gives the records before, and an ending that may change
     rest-waits : (s : Shape) (base k : ℕ) (rs : List Rec) → walkTo judge sh log (base + k) ≡ adds rs (walk judge s base (partOf log base k))
         → decided (judge s base (partOf log base k)) ≡ false
         → (walkTo judge sh log (base + k) .records ≡ rs) × Early (walkTo judge sh log (base + k) .ending)
     rest-waits s base k rs e d =
-        let (a, b) = walk-waits judge laws s base (partOf log base k) d in
+        let (a, b) = walk-waits judge (able .steady) s base (partOf log base k) d in
         rw e (ap (λ l. rs ++ l) a ∙ append-nil rs, b)
 
     -- so it is before them
@@ -96,7 +97,7 @@ module _ {Shape Rec : Type 0} (judge : Judge Shape Rec) (full most : ℕ) (wrong
       held-within : w .held < full
       held-within =
           let l : length (partOf log base (w .held)) ≡ w .held = length-part log base (w .held) (omega (arith, o .place, o .reach)) in
-          omega (arith, waits-within (judge (w .shape) base) (laws (w .shape) base) full (within (w .shape) base) (partOf log base (w .held)) (o .waits))
+          omega (arith, waits-within (judge (w .shape) base) (able .steady (w .shape) base) full (able .within (w .shape) base) (partOf log base (w .held)) (o .waits))
 
       open-range : (hold : List ℕ) → full ≤ length hold → InRange full most wrong w hold
       open-range hold s = record {
@@ -104,7 +105,7 @@ module _ {Shape Rec : Type 0} (judge : Judge Shape Rec) (full most : ℕ) (wrong
         fits = omega (arith, held-within);
         within = omega (arith, o .reach);
         order = omega (arith, o .place);
-        right = o .fine;
+        right = able .grows (w .shape) base (w .total) (omega (arith, o .place)) (o .fine);
       }
 
       -- The walk of the bytes taken so far has no further record, and its ending may change.
@@ -143,7 +144,7 @@ module _ {Shape Rec : Type 0} (judge : Judge Shape Rec) (full most : ℕ) (wrong
       shorter k h =
           let all : x ++ p ≡ partOf log base (w .held + length p) = ap (λ l. x ++ l) (sym (take-all (length p) p (omega arith))) ∙ grow (length p) (omega arith) in
           let d : decided (judge (w .shape) base (take k (x ++ p))) ≡ false =
-          none-before (judge (w .shape) base) (laws (w .shape) base) x p n (o .waits) least k (omega (arith, length-x)) in
+          none-before (judge (w .shape) base) (able .steady (w .shape) base) x p n (o .waits) least k (omega (arith, length-x)) in
           let e : take k (x ++ p) ≡ partOf log base k = ap (take k) all ∙ take-take k (w .held + length p) (drop base log) (omega (arith, least .within)) in
           rw e at d
 
@@ -177,7 +178,7 @@ module _ {Shape Rec : Type 0} (judge : Judge Shape Rec) (full most : ℕ) (wrong
           let e : a + (k - a) ≡ k = omega arith in
           ap (λ m. judge (w .shape) base (partOf log base m)) (sym e)
           ∙ ap (judge (w .shape) base) (part-add log base a (k - a))
-          ∙ laws (w .shape) base .stays (partOf log base a) (partOf log (base + a) (k - a)) (ap decided j ∙ d)
+          ∙ able .steady (w .shape) base .stays (partOf log base a) (partOf log (base + a) (k - a)) (ap decided j ∙ d)
           ∙ j
 
       feed-wants : (s e : ℕ) → judge (w .shape) base (partOf log base (w .held + n)) ≡ more s e
@@ -205,7 +206,7 @@ module _ {Shape Rec : Type 0} (judge : Judge Shape Rec) (full most : ℕ) (wrong
       gives-size : (r : Rec) (m : ℕ) (next : Shape) → judge (w .shape) base (partOf log base (w .held + n)) ≡ sound r m next → m ≡ w .held + n
       gives-size r m next j =
           let e : length (partOf log base (w .held + n)) ≡ w .held + n = length-part log base (w .held + n) (omega (arith, o .place, length-p, least .within)) in
-          sound-all (judge (w .shape) base) (laws (w .shape) base) (partOf log base (w .held + n)) r m next j
+          sound-all (judge (w .shape) base) (able .steady (w .shape) base) (partOf log base (w .held + n)) r m next j
           (λ k h. rw (take-take k (w .held + n) (drop base log) (omega arith)) (shorter k (omega arith)))
           ∙ e
 
@@ -227,7 +228,7 @@ module _ {Shape Rec : Type 0} (judge : Judge Shape Rec) (full most : ℕ) (wrong
           ap (drop a) (part-add log base a k) ∙ drop-at (partOf log base a) (partOf log (base + a) k) a len in
           ap (walkTo judge sh log) (sym c)
           ∙ o .rest (a + k)
-          ∙ ap (adds rs) (walk-sound judge laws (w .shape) base (partOf log base (a + k)) r a next (stays (sound r a next) j refl (a + k) (omega arith)))
+          ∙ ap (adds rs) (walk-sound judge (able .steady) (w .shape) base (partOf log base (a + k)) r a next (stays (sound r a next) j refl (a + k) (omega arith)))
           ∙ ap (λ l. adds rs (add r (walk judge next (base + a) l))) cut
           ∙ ap (λ t. adds rs (add r (walk judge next t (partOf log t k)))) b
           ∙ ap (λ l. record { records = l; ending = walk judge next (w .total + n) (partOf log (w .total + n) k) .ending })
@@ -241,35 +242,37 @@ module _ {Shape Rec : Type 0} (judge : Judge Shape Rec) (full most : ℕ) (wrong
           next-gives r refl
           (record {
             awake = refl;
-            fine = right (w .shape) base (partOf log base (w .held + n)) r m next j (o .fine);
+            fine =
+                let e : base + m ≡ w .total + n = omega (arith, o .place, gives-size r m next j) in
+                rw e at (able .right (w .shape) base (partOf log base (w .held + n)) r m next j (o .fine));
             place = omega arith;
             reach = omega (arith, length-p, least .within);
             todo = todo-rest;
             bytes = refl;
-            waits = laws next (w .total + n) .opens;
+            waits = able .steady next (w .total + n) .opens;
             rest = rest;
             sofar = λ k h. split (w .total + n) k
                 (λ i. let e : w .total + n + 0 ≡ k = omega arith in
-                rw e at (rest-before next (w .total + n) 0 (rs ++ (r ∷ [])) (rest 0) (laws next (w .total + n) .opens)))
+                rw e at (rest-before next (w .total + n) 0 (rs ++ (r ∷ [])) (rest 0) (able .steady next (w .total + n) .opens)))
                 (λ i. let b = sooner k i in record { few = omega (arith, b .few, length-append rs (r ∷ [])); early = b .early });
           })
           refl
           (gives-some r m next j)
           (let b : w .total - w .held ≡ base = omega (arith, o .place) in rw b hold-bytes)
 
-      feed-stops : (why : Why) (at : ℕ) → judge (w .shape) base (partOf log base (w .held + n)) ≡ bad why at
-          → Next rs w p ps (fed w (paste hold (w .held) p n) n (bad why at))
-      feed-stops why at j = next-stops (record {
-        ending = refused why at;
+      feed-stops : (r : Refusal) → judge (w .shape) base (partOf log base (w .held + n)) ≡ refused r
+          → Next rs w p ps (fed w (paste hold (w .held) p n) n (refused r))
+      feed-stops r j = next-stops (record {
+        ending = Ending.Refused r;
         says = refl;
         shut = record {
           keeps = refl;
           ranged = λ h s. record {
             size = s;
-            fits = omega (arith, length-x, taken-within (judge (w .shape) base) (laws (w .shape) base) full (within (w .shape) base) x p n (o .waits) least);
+            fits = omega (arith, length-x, taken-within (judge (w .shape) base) (able .steady (w .shape) base) full (able .within (w .shape) base) x p n (o .waits) least);
             within = omega (arith, length-p, least .within);
             order = omega (arith, o .place);
-            right = o .fine;
+            right = able .grows (w .shape) base (w .total + n) (omega (arith, o .place)) (o .fine);
           };
         };
         final = λ m h.
@@ -277,8 +280,8 @@ module _ {Shape Rec : Type 0} (judge : Judge Shape Rec) (full most : ℕ) (wrong
             let e : base + k ≡ m = omega (arith, o .place) in
             ap (walkTo judge sh log) (sym e)
             ∙ o .rest k
-            ∙ ap (adds rs) (walk-bad judge laws (w .shape) base (partOf log base k) why at (stays (bad why at) j refl k (omega (arith, o .place))))
-            ∙ ap (λ l. record { records = l; ending = refused why at }) (append-nil rs);
+            ∙ ap (adds rs) (walk-refused judge (able .steady) (w .shape) base (partOf log base k) r (stays (refused r) j refl k (omega (arith, o .place))))
+            ∙ ap (λ l. record { records = l; ending = Ending.Refused r }) (append-nil rs);
       })
 
       -- A feed to an open walker is such a step.
@@ -286,10 +289,10 @@ module _ {Shape Rec : Type 0} (judge : Judge Shape Rec) (full most : ℕ) (wrong
           (feedOf judge full most wrong w hold p)
       feed-step = rw feed-open (go (judge (w .shape) base (partOf log base (w .held + n))) refl)
         where
-          outcome : Verdict Shape Rec → Outcome Shape Rec
+          outcome : Verdict Shape Rec → Outcome (Walker Shape) Rec
           outcome v = fed w (paste hold (w .held) p n) n v
 
-          step : (qs : List (List ℕ)) (y : Outcome Shape Rec) → y .count ≡ n → y .walker .total ≡ w .total + n → Next rs w p qs y → Step rs w p qs y
+          step : (qs : List (List ℕ)) (y : Outcome (Walker Shape) Rec) → y .count ≡ n → y .walker .total ≡ w .total + n → Next rs w p qs y → Step rs w p qs y
           step qs y c t x = record {
             next = x;
             sooner = λ m h. sooner m (omega arith);
@@ -302,7 +305,7 @@ module _ {Shape Rec : Type 0} (judge : Judge Shape Rec) (full most : ℕ) (wrong
               → Step rs w p (after (outcome v .answer) (outcome v .count) p ps) (outcome v)
           go (more s e) j = step ps (outcome (more s e)) refl refl (feed-wants s e j)
           go (sound r m next) j = step (drop n p ∷ ps) (outcome (sound r m next)) refl refl (feed-gives r m next j)
-          go (bad why at) j = step ps (outcome (bad why at)) refl refl (feed-stops why at j)
+          go (refused r) j = step ps (outcome (refused r)) refl refl (feed-stops r j)
 
     -- ---- a close of an open walker, with no more to come
 
@@ -315,7 +318,7 @@ module _ {Shape Rec : Type 0} (judge : Judge Shape Rec) (full most : ℕ) (wrong
       y = partOf log base (w .held)
 
       -- the held bytes wait, so there is one case
-      by-close : (P : Outcome Shape Rec → Type 0) → ((s e : ℕ) → judge (w .shape) base y ≡ more s e → P (closed w hold y (more s e)))
+      by-close : (P : Outcome (Walker Shape) Rec → Type 0) → ((s e : ℕ) → judge (w .shape) base y ≡ more s e → P (closed w hold y (more s e)))
           → P (closeOf judge full most wrong w hold)
       by-close P f =
           let s : start w ≡ base = omega (arith, o .place) in
@@ -325,11 +328,11 @@ module _ {Shape Rec : Type 0} (judge : Judge Shape Rec) (full most : ℕ) (wrong
           go : (v : Verdict Shape Rec) → judge (w .shape) base y ≡ v → P (closed w hold y v)
           go (more s e) j = f s e j
           go (sound r n next) j = both (ap decided j) (o .waits)
-          go (bad why at) j = both (ap decided j) (o .waits)
+          go (refused r) j = both (ap decided j) (o .waits)
 
-      closing-stops : (s e : ℕ) → judge (w .shape) base y ≡ more s e → Stopping rs w (closed w hold y (more s e))
-      closing-stops s e j = record {
-        ending = closing (start w) (length y) s;
+      ending-stops : (s e : ℕ) → judge (w .shape) base y ≡ more s e → Stopping rs w (closed w hold y (more s e))
+      ending-stops s e j = record {
+        ending = endingIn (start w) (length y) s;
         says = refl;
         shut = record {
           keeps = refl;
@@ -340,19 +343,19 @@ module _ {Shape Rec : Type 0} (judge : Judge Shape Rec) (full most : ℕ) (wrong
             let b : base ≡ start w = omega (arith, o .place) in
             ap (walk judge sh 0) (take-all m log (omega (arith, all)) ∙ sym (take-all (base + w .held) log (omega (arith, all, o .place))))
             ∙ o .rest (w .held)
-            ∙ ap (adds rs) (walk-more judge laws (w .shape) base y s e j)
-            ∙ ap (λ l. record { records = l; ending = closing base (length y) s }) (append-nil rs)
-            ∙ ap (λ t. record { records = rs; ending = closing t (length y) s }) b;
+            ∙ ap (adds rs) (walk-more judge (able .steady) (w .shape) base y s e j)
+            ∙ ap (λ l. record { records = l; ending = endingIn base (length y) s }) (append-nil rs)
+            ∙ ap (λ t. record { records = rs; ending = endingIn t (length y) s }) b;
       }
 
       -- A close of an open walker stops,
       pub close-stops : Stopping rs w (closeOf judge full most wrong w hold)
-      close-stops = by-close (Stopping rs w) closing-stops
+      close-stops = by-close (Stopping rs w) ending-stops
 
       -- and is such a step.
       pub close-step : Step rs w [] [] (closeOf judge full most wrong w hold)
       close-step = by-close (Step rs w [] []) (λ s e j. record {
-        next = next-stops (closing-stops s e j);
+        next = next-stops (ending-stops s e j);
         sooner = λ m i. o .sofar m (omega arith);
         within = omega arith;
         bytes = refl;

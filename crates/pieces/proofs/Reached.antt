@@ -11,32 +11,33 @@ use native.Mathlib.Omega.{arith}
 use native.Mathlib.Nat.{zero-add}
 use lib.ListN.{length}
 use lib.Seq.{take-all}
-use Rattle.number.specs.Range.{partOf}
-use Rattle.pieces.specs.Verdict.{Judge, more, sound, Steady}
-use Rattle.pieces.specs.Walk.{Ending, ended, only, walk}
-use Rattle.pieces.specs.Feed.{Walker, Answer, gives, stops, wants, fresh, still}
-use Rattle.pieces.specs.Run.{join, Call, after, tells, record?, stop?, outcomeOf, stopped, took, holding, told, Run, feeds, closes}
+use Rattle.numbers.specs.Range.{partOf}
+use Rattle.refusal.specs.declared.Ending.{Ending}
+use Rattle.pieces.specs.Verdict.{Judge}
+use Rattle.pieces.specs.Walk.{only, walk}
+use Rattle.pieces.specs.Feed.{Walker, Answer, gives, stops, wants, fresh, still, Feedable}
+use Rattle.pieces.specs.Run.{join, Call, after, tells, record?, stop?, outcomeOf, stopped, took, holding, told, feeds, closes, RunOf}
+use Rattle.pieces.specs.Prompt.{walkTo, pieceOf, lentTo, given}
 use Rattle.pieces.proofs.FeedLaws.{feed-kept, close-kept}
-use Rattle.pieces.proofs.RunLaws.{adds, pieceOf, lentTo, given, stopped-append, took-append, holding-append, told-append, told-stopped}
-use Rattle.pieces.proofs.Beginnings.{walkTo}
+use Rattle.pieces.proofs.RunLaws.{adds, stopped-append, took-append, holding-append, told-append, told-stopped}
 use Rattle.pieces.proofs.OneCall.{Open, Shut, Next, next-gives, next-wants, next-stops, Step, rest-before, feed-step, close-step}
 
-module _ {Shape Rec : Type 0} (judge : Judge Shape Rec) (full most : ℕ) (wrong : Shape → Bool) (sh : Shape) (log : List ℕ) where
+module _ {Shape Rec : Type 0} (judge : Judge Shape Rec) (full most : ℕ) (wrong : ℕ → Shape → Bool) (sh : Shape) (log : List ℕ) where
   -- After the calls bs the walker is w, the hold was left as `last`, and the pieces ps are to come.
-  pub data Reached (bs : List (Call Shape Rec)) (ps : List (List ℕ)) (w : Walker Shape) (last : List ℕ) : Type 0 where
+  pub data Reached (bs : List (Call (Walker Shape) Rec)) (ps : List (List ℕ)) (w : Walker Shape) (last : List ℕ) : Type 0 where
     reached-open : (base : ℕ) → stopped bs ≡ false → w .total ≡ took bs → w .held ≡ holding 0 bs
         → Open judge full most wrong sh log base (given bs) ps w last → Reached bs ps w last
     reached-shut : (e : Ending) → stopped bs ≡ true → ((d : Ending) → told d bs ≡ walk judge sh 0 log)
         → Shut judge full most wrong sh log e w → Reached bs ps w last
 
   -- What the call c did, after the calls bs, to the walker w, with the pieces ps left to come.
-  pub data Called (bs : List (Call Shape Rec)) (c : Call Shape Rec) (ps : List (List ℕ)) : Type 0 where
+  pub data Called (bs : List (Call (Walker Shape) Rec)) (c : Call (Walker Shape) Rec) (ps : List (List ℕ)) : Type 0 where
     called-open : (w : Walker Shape) → stopped bs ≡ false → w .total ≡ took bs → w .held ≡ holding 0 bs
         → Step judge full most wrong sh log (given bs) w (pieceOf c) ps (outcomeOf c) → Called bs c ps
     called-shut : (w : Walker Shape) (e : Ending) → stopped bs ≡ true → ((d : Ending) → told d bs ≡ walk judge sh 0 log)
         → Shut judge full most wrong sh log e w → outcomeOf c ≡ still w (lentTo c) e → Called bs c ps
 
-  module _ (bs : List (Call Shape Rec)) (c : Call Shape Rec) (f : stopped bs ≡ false) where
+  module _ (bs : List (Call (Walker Shape) Rec)) (c : Call (Walker Shape) Rec) (f : stopped bs ≡ false) where
     -- after calls that did not stop, a call that stops or not
     stopped-snoc : stopped (bs ++ (c ∷ [])) ≡ stop? (outcomeOf c .answer) || false
     stopped-snoc = stopped-append (c ∷ []) bs ∙ rw f
@@ -44,11 +45,11 @@ module _ {Shape Rec : Type 0} (judge : Judge Shape Rec) (full most : ℕ) (wrong
     told-snoc : (d : Ending) (a : Answer Rec) → outcomeOf c .answer ≡ a → told d (bs ++ (c ∷ [])) ≡ adds (given bs) (tells a (only d))
     told-snoc d a e = told-append (c ∷ []) d bs f ∙ ap (λ x. adds (given bs) (tells x (only d))) e
 
-    given-snoc : (a : Answer Rec) → outcomeOf c .answer ≡ a → given (bs ++ (c ∷ [])) ≡ given bs ++ tells a (only (ended 0 0)) .records
-    given-snoc a e = ap (λ t. t .records) (told-snoc (ended 0 0) a e)
+    given-snoc : (a : Answer Rec) → outcomeOf c .answer ≡ a → given (bs ++ (c ∷ [])) ≡ given bs ++ tells a (only (Ending.End 0 0)) .records
+    given-snoc a e = ap (λ t. t .records) (told-snoc (Ending.End 0 0) a e)
 
   -- a call leaves a state that is reached
-  called-reached : {bs : List (Call Shape Rec)} {c : Call Shape Rec} {ps : List (List ℕ)} → Called bs c ps
+  called-reached : {bs : List (Call (Walker Shape) Rec)} {c : Call (Walker Shape) Rec} {ps : List (List ℕ)} → Called bs c ps
       → Reached (bs ++ (c ∷ [])) ps (outcomeOf c .walker) (outcomeOf c .hold)
   called-reached {bs} {c} {ps} (called-shut w e t f k s) =
       reached-shut e (stopped-append (c ∷ []) bs ∙ rw t) (λ d. told-stopped (c ∷ []) d bs t ∙ f d) (rw s k)
@@ -76,8 +77,8 @@ module _ {Shape Rec : Type 0} (judge : Judge Shape Rec) (full most : ℕ) (wrong
           (x .shut)
 
   -- A walker that is shut says the same again, takes nothing and leaves the hold as it is, at every call of a run from there on.
-  pub shut-repeats : {ps : List (List ℕ)} {w : Walker Shape} {last : List ℕ} (e : Ending) (cs : List (Call Shape Rec)) (d : Call Shape Rec)
-      (ds : List (Call Shape Rec)) → Shut judge full most wrong sh log e w → Run judge full most wrong ps w last (cs ++ (d ∷ ds))
+  pub shut-repeats : {ps : List (List ℕ)} {w : Walker Shape} {last : List ℕ} (e : Ending) (cs : List (Call (Walker Shape) Rec)) (d : Call (Walker Shape) Rec)
+      (ds : List (Call (Walker Shape) Rec)) → Shut judge full most wrong sh log e w → RunOf judge full most wrong ps w last (cs ++ (d ∷ ds))
       → outcomeOf d ≡ still w (lentTo d) e
   shut-repeats e [] d ds k (feeds {p = p} {w = w} {hold = hold} l q r) =
       q ∙ feed-kept judge full most wrong w hold (k .ranged hold (l .size)) p e (k .keeps)
@@ -90,27 +91,24 @@ module _ {Shape Rec : Type 0} (judge : Judge Shape Rec) (full most : ℕ) (wrong
       let i = q ∙ close-kept judge full most wrong w hold (k .ranged hold (l .size)) e (k .keeps) in
       shut-repeats e cs d ds (rw i k) r ∙ rw i
 
-  module _ (laws : (sh : Shape) (base : ℕ) → Steady (judge sh base))
-      (within : (sh : Shape) (base : ℕ) (p : List ℕ) (s e : ℕ) → judge sh base p ≡ more s e → e ≤ full)
-      (right : (sh : Shape) (base : ℕ) (p : List ℕ) (r : Rec) (n : ℕ) (next : Shape) → judge sh base p ≡ sound r n next → wrong sh ≡ false → wrong next ≡ false)
-      (short : length log ≤ most) where
+  module _ (able : Feedable judge full wrong) (short : length log ≤ most) where
     -- the first call of what is left of a run, and the rest of it
-    one-call : {bs : List (Call Shape Rec)} {ps : List (List ℕ)} {w : Walker Shape} {last : List ℕ} {c : Call Shape Rec} {cs : List (Call Shape Rec)}
-        → Reached bs ps w last → Run judge full most wrong ps w last (c ∷ cs)
-        → (qs : List (List ℕ)) × Called bs c qs × Run judge full most wrong qs (outcomeOf c .walker) (outcomeOf c .hold) cs
+    one-call : {bs : List (Call (Walker Shape) Rec)} {ps : List (List ℕ)} {w : Walker Shape} {last : List ℕ} {c : Call (Walker Shape) Rec} {cs : List (Call (Walker Shape) Rec)}
+        → Reached bs ps w last → RunOf judge full most wrong ps w last (c ∷ cs)
+        → (qs : List (List ℕ)) × Called bs c qs × RunOf judge full most wrong qs (outcomeOf c .walker) (outcomeOf c .hold) cs
     one-call (reached-open base f t h o) (feeds {p = p} {ps = ps} {w = w} {last = last} {hold = hold} {o = x} l q r) =
-        (after (x .answer) (x .count) p ps, called-open w f t h (rw q (feed-step judge full most wrong sh log laws within right short base _ p ps w last hold o l)), r)
+        (after (x .answer) (x .count) p ps, called-open w f t h (rw q (feed-step judge full most wrong sh log able short base _ p ps w last hold o l)), r)
     one-call (reached-open base f t h o) (closes {w = w} {last = last} {hold = hold} l q r) =
-        ([], called-open w f t h (rw q (close-step judge full most wrong sh log laws within right short base _ w last hold o l)), r)
+        ([], called-open w f t h (rw q (close-step judge full most wrong sh log able short base _ w last hold o l)), r)
     one-call (reached-shut e t f k) (feeds {p = p} {w = w} {hold = hold} l q r) =
         (_, called-shut w e t f k (q ∙ feed-kept judge full most wrong w hold (k .ranged hold (l .size)) p e (k .keeps)), r)
     one-call (reached-shut e t f k) (closes {w = w} {hold = hold} l q r) =
         (_, called-shut w e t f k (q ∙ close-kept judge full most wrong w hold (k .ranged hold (l .size)) e (k .keeps)), r)
 
     -- the state after the first calls of what is left of a run
-    reach : {ps : List (List ℕ)} {w : Walker Shape} {last : List ℕ} (ds bs cs : List (Call Shape Rec)) → Reached ds ps w last
-        → Run judge full most wrong ps w last (bs ++ cs)
-        → (qs : List (List ℕ)) × (v : Walker Shape) × (hold : List ℕ) × Reached (ds ++ bs) qs v hold × Run judge full most wrong qs v hold cs
+    reach : {ps : List (List ℕ)} {w : Walker Shape} {last : List ℕ} (ds bs cs : List (Call (Walker Shape) Rec)) → Reached ds ps w last
+        → RunOf judge full most wrong ps w last (bs ++ cs)
+        → (qs : List (List ℕ)) × (v : Walker Shape) × (hold : List ℕ) × Reached (ds ++ bs) qs v hold × RunOf judge full most wrong qs v hold cs
     reach {ps} {w} {last} ds [] cs s r = (ps, w, last, rw (append-nil ds) s, r)
     reach ds (b ∷ bs) cs s r =
         let (qs, c, r′) = one-call s r in
@@ -119,7 +117,7 @@ module _ {Shape Rec : Type 0} (judge : Judge Shape Rec) (full most : ℕ) (wrong
 
     -- ---- from a fresh walker
 
-    module _ (ps : List (List ℕ)) (last : List ℕ) (all : join ps ≡ log) (ok : wrong sh ≡ false) where
+    module _ (ps : List (List ℕ)) (last : List ℕ) (all : join ps ≡ log) (ok : wrong 0 sh ≡ false) where
       -- A fresh walker is open, with nothing held and no records given.
       pub fresh-open : Open judge full most wrong sh log 0 [] ps (fresh sh) last
       fresh-open =
@@ -131,20 +129,20 @@ module _ {Shape Rec : Type 0} (judge : Judge Shape Rec) (full most : ℕ) (wrong
             reach = omega arith;
             todo = sym all;
             bytes = refl;
-            waits = laws sh 0 .opens;
+            waits = able .steady sh 0 .opens;
             rest = rest;
             sofar = λ m h.
                 let e : m ≡ 0 + 0 = omega arith in
-                rw e (rest-before judge full most wrong sh log laws within right short sh 0 0 [] (rest 0) (laws sh 0 .opens));
+                rw e (rest-before judge full most wrong sh log able short sh 0 0 [] (rest 0) (able .steady sh 0 .opens));
           }
 
       -- The state after the first calls of a run is reached.
-      pub after-calls : (bs cs : List (Call Shape Rec)) → Run judge full most wrong ps (fresh sh) last (bs ++ cs)
-          → (qs : List (List ℕ)) × (v : Walker Shape) × (hold : List ℕ) × Reached bs qs v hold × Run judge full most wrong qs v hold cs
+      pub after-calls : (bs cs : List (Call (Walker Shape) Rec)) → RunOf judge full most wrong ps (fresh sh) last (bs ++ cs)
+          → (qs : List (List ℕ)) × (v : Walker Shape) × (hold : List ℕ) × Reached bs qs v hold × RunOf judge full most wrong qs v hold cs
       after-calls bs cs r = reach [] bs cs (reached-open 0 refl refl refl fresh-open) r
 
       -- So any call of a run is made in such a state; and the rest of the run.
-      pub call-at : (bs : List (Call Shape Rec)) (c : Call Shape Rec) (cs : List (Call Shape Rec))
-          → Run judge full most wrong ps (fresh sh) last (bs ++ (c ∷ cs))
-          → (qs : List (List ℕ)) × Called bs c qs × Run judge full most wrong qs (outcomeOf c .walker) (outcomeOf c .hold) cs
+      pub call-at : (bs : List (Call (Walker Shape) Rec)) (c : Call (Walker Shape) Rec) (cs : List (Call (Walker Shape) Rec))
+          → RunOf judge full most wrong ps (fresh sh) last (bs ++ (c ∷ cs))
+          → (qs : List (List ℕ)) × Called bs c qs × RunOf judge full most wrong qs (outcomeOf c .walker) (outcomeOf c .hold) cs
       call-at bs c cs r = let (qs, v, hold, s, z) = after-calls bs (c ∷ cs) r in one-call s z

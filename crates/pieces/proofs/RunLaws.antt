@@ -1,39 +1,28 @@
--- Laws of lists of calls (specs/Run.antt): what calls took, hold and told, where one list of calls follows another.
---   pieceOf, lentTo     what a call was fed and which hold it was lent
---   given               the records that calls gave
---   adds                records before what is told
+-- Laws of lists of calls (specs/Run.antt): what calls took, hold and told, where one list of calls follows another; and runs of one
+-- type of walker as runs of another.
+--   adds                        records before what is told
+--   callsSeen-append, -stopped, -told   calls of walkers that are seen as walkers of another type
+--   run-seen                    where each walker keeps its promises as such, a run of the first is a run of the second
 -- Assumes nothing.
 use Prim.Native.Nat.{ℕ, _+_}
 use mathlib.Core.Path.{_≡_, refl, sym, ap, _∙_}
 use mathlib.Core.Bool.{Bool, true, false, _||_, cond}
 use mathlib.Core.List.{List, [], _∷_, _++_}
 use native.Mathlib.Nat.{zero-add, add-assoc}
-use Rattle.number.proofs.ByCases.{both}
-use Rattle.pieces.specs.Walk.{Ending, ended, Told, add}
-use Rattle.pieces.specs.Feed.{Answer, gives, stops, wants}
-use Rattle.pieces.specs.Run.{Call, fedCall, closeCall, tells, record?, stop?, outcomeOf, stopped, took, holding, told}
+use Rattle.numbers.proofs.ByCases.{both}
+use Rattle.refusal.specs.declared.Ending.{Ending}
+use Rattle.pieces.specs.Walk.{Told, add}
+use Rattle.pieces.specs.Feed.{Answer, gives, stops, wants, Outcome}
+use Rattle.pieces.specs.Run.{Call, fedCall, closeCall, tells, record?, stop?, outcomeOf, stopped, took, holding, told, Lent, Run, rests, feeds, closes, seenAs, callSeen, callsSeen}
+use Rattle.pieces.specs.Prompt.{given}
 
 -- records, and then what is told
 abbrev pub adds : {Rec : Type 0} → List Rec → Told Rec → Told Rec
 adds rs t = record { records = rs ++ t .records; ending = t .ending }
 
-module _ {Shape Rec : Type 0} where
-  -- what a call was fed; nothing, where it closed
-  abbrev pub pieceOf : Call Shape Rec → List ℕ
-  pieceOf (fedCall piece hold o) = piece
-  pieceOf (closeCall hold o) = []
-
-  -- the hold that a call was lent
-  abbrev pub lentTo : Call Shape Rec → List ℕ
-  lentTo (fedCall piece hold o) = hold
-  lentTo (closeCall hold o) = hold
-
-  -- the records that calls gave, in order
-  abbrev pub given : List (Call Shape Rec) → List Rec
-  given cs = told (ended 0 0) cs .records
-
+module _ {W Rec : Type 0} where
   -- The records told do not depend on the ending that stands for none.
-  pub told-records : (d e : Ending) (cs : List (Call Shape Rec)) → told d cs .records ≡ told e cs .records
+  pub told-records : (d e : Ending) (cs : List (Call W Rec)) → told d cs .records ≡ told e cs .records
   told-records d e [] = refl
   told-records d e (c ∷ cs) = go (outcomeOf c .answer) (told-records d e cs)
     where
@@ -42,9 +31,9 @@ module _ {Shape Rec : Type 0} where
       go (stops x) ih = refl
       go wants ih = ih
 
-  module _ (cs : List (Call Shape Rec)) where
+  module _ (cs : List (Call W Rec)) where
     -- Two lists of calls, one after the other, stopped where either did.
-    pub stopped-append : (bs : List (Call Shape Rec)) → stopped (bs ++ cs) ≡ stopped bs || stopped cs
+    pub stopped-append : (bs : List (Call W Rec)) → stopped (bs ++ cs) ≡ stopped bs || stopped cs
     stopped-append [] = refl
     stopped-append (b ∷ bs) = go (stop? (outcomeOf b .answer)) (stopped-append bs)
       where
@@ -53,28 +42,28 @@ module _ {Shape Rec : Type 0} where
         go false ih = ih
 
     -- They took what both took.
-    pub took-append : (bs : List (Call Shape Rec)) → took (bs ++ cs) ≡ took bs + took cs
+    pub took-append : (bs : List (Call W Rec)) → took (bs ++ cs) ≡ took bs + took cs
     took-append [] = sym (zero-add (took cs))
     took-append (b ∷ bs) = ap (λ n. outcomeOf b .count + n) (took-append bs) ∙ sym (add-assoc (outcomeOf b .count) (took bs) (took cs))
 
     -- The second goes on with what the first holds.
-    pub holding-append : (h : ℕ) (bs : List (Call Shape Rec)) → holding h (bs ++ cs) ≡ holding (holding h bs) cs
+    pub holding-append : (h : ℕ) (bs : List (Call W Rec)) → holding h (bs ++ cs) ≡ holding (holding h bs) cs
     holding-append h [] = refl
     holding-append h (b ∷ bs) = holding-append (cond (record? (outcomeOf b .answer)) 0 (h + outcomeOf b .count)) bs
 
     -- After calls that did not stop, what later calls told comes after their records.
-    pub told-append : (e : Ending) (bs : List (Call Shape Rec)) → stopped bs ≡ false → told e (bs ++ cs) ≡ adds (given bs) (told e cs)
+    pub told-append : (e : Ending) (bs : List (Call W Rec)) → stopped bs ≡ false → told e (bs ++ cs) ≡ adds (given bs) (told e cs)
     told-append e [] f = refl
     told-append e (b ∷ bs) f = go (outcomeOf b .answer) f (told-append e bs)
       where
         go : (a : Answer Rec) → stop? a || stopped bs ≡ false → (stopped bs ≡ false → told e (bs ++ cs) ≡ adds (given bs) (told e cs))
-            → tells a (told e (bs ++ cs)) ≡ adds (tells a (told (ended 0 0) bs) .records) (told e cs)
+            → tells a (told e (bs ++ cs)) ≡ adds (tells a (told (Ending.End 0 0) bs) .records) (told e cs)
         go (gives r) f ih = ap (add r) (ih f)
         go (stops x) f ih = both refl f
         go wants f ih = ih f
 
     -- After calls that stopped, nothing more is told.
-    pub told-stopped : (e : Ending) (bs : List (Call Shape Rec)) → stopped bs ≡ true → told e (bs ++ cs) ≡ told e bs
+    pub told-stopped : (e : Ending) (bs : List (Call W Rec)) → stopped bs ≡ true → told e (bs ++ cs) ≡ told e bs
     told-stopped e [] t = both t refl
     told-stopped e (b ∷ bs) t = go (outcomeOf b .answer) t (told-stopped e bs)
       where
@@ -83,3 +72,34 @@ module _ {Shape Rec : Type 0} where
         go (gives r) t ih = ap (add r) (ih t)
         go (stops x) t ih = refl
         go wants t ih = ih t
+
+-- ---- walkers of one type, seen as walkers of another
+
+module _ {W X Rec : Type 0} (see : W → X) where
+  pub callsSeen-append : (bs cs : List (Call W Rec)) → callsSeen see (bs ++ cs) ≡ callsSeen see bs ++ callsSeen see cs
+  callsSeen-append [] cs = refl
+  callsSeen-append (b ∷ bs) cs = ap (λ l. callSeen see b ∷ l) (callsSeen-append bs cs)
+
+  pub callsSeen-told : (e : Ending) (cs : List (Call W Rec)) → told e (callsSeen see cs) ≡ told e cs
+  callsSeen-told e [] = refl
+  callsSeen-told e (fedCall p h o ∷ cs) = ap (tells (o .answer)) (callsSeen-told e cs)
+  callsSeen-told e (closeCall h o ∷ cs) = ap (tells (o .answer)) (callsSeen-told e cs)
+
+  pub callsSeen-stopped : (cs : List (Call W Rec)) → stopped (callsSeen see cs) ≡ stopped cs
+  callsSeen-stopped [] = refl
+  callsSeen-stopped (fedCall p h o ∷ cs) = ap (λ t. stop? (o .answer) || t) (callsSeen-stopped cs)
+  callsSeen-stopped (closeCall h o ∷ cs) = ap (λ t. stop? (o .answer) || t) (callsSeen-stopped cs)
+
+  module _ (full : ℕ) (held : W → ℕ) (held′ : X → ℕ) (Feeds : W → List ℕ → List ℕ → Outcome W Rec → Type 0)
+      (Closes : W → List ℕ → Outcome W Rec → Type 0) (Feeds′ : X → List ℕ → List ℕ → Outcome X Rec → Type 0)
+      (Closes′ : X → List ℕ → Outcome X Rec → Type 0) (same : (w : W) → held′ (see w) ≡ held w)
+      (fed : (w : W) (hold p : List ℕ) (o : Outcome W Rec) → Feeds w hold p o → Feeds′ (see w) hold p (seenAs see o))
+      (shut : (w : W) (hold : List ℕ) (o : Outcome W Rec) → Closes w hold o → Closes′ (see w) hold (seenAs see o)) where
+    lent-seen : (w : W) {last hold : List ℕ} → Lent full (held w) last hold → Lent full (held′ (see w)) last hold
+    lent-seen w l = rw (same w) l
+
+    pub run-seen : {ps : List (List ℕ)} {w : W} {last : List ℕ} {cs : List (Call W Rec)} → Run full held Feeds Closes ps w last cs
+        → Run full held′ Feeds′ Closes′ ps (see w) last (callsSeen see cs)
+    run-seen rests = rests
+    run-seen (feeds {p = p} {w = w} {hold = hold} {o = o} l f r) = feeds (lent-seen w l) (fed w hold p o f) (run-seen r)
+    run-seen (closes {w = w} {hold = hold} {o = o} l c r) = closes (lent-seen w l) (shut w hold o c) (run-seen r)

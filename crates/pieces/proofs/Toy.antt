@@ -10,22 +10,24 @@ use mathlib.Core.List.{List, [], _∷_, _++_}
 use native.Mathlib.Omega.{arith}
 use lib.Dec.{eqb}
 use lib.ListN.{length, take, getD}
-use Rattle.refusal.specs.declared.Why.{Why}
+use Rattle.numbers.proofs.ByCases.{never}
 use Rattle.refusal.specs.declared.Why.the-variants.{LogTooLong, FieldCut, FieldTooFar, BadValue, NoSlot, TotalTooLong, OutOfRange}
-use Rattle.pieces.specs.Verdict.{more, sound, bad, Judge, decided, Steady}
+use Rattle.refusal.specs.declared.Ending.{Ending}
+use Rattle.refusal.specs.declared.Refusal.{Refusal}
+use Rattle.refusal.specs.Endings.{refusedWith}
+use Rattle.refusal.specs.Tests.{refusalOf}
+use Rattle.pieces.specs.Verdict.{more, sound, refused, Judge, decided, Steady}
 use Rattle.pieces.specs.Plan.{Plan, want, give, deny, read}
-use Rattle.pieces.specs.Walk.{Ending, ended, refused, Told, only, walk, wholeWalk}
+use Rattle.pieces.specs.Walk.{Told, only, walk, wholeWalk}
 use Rattle.pieces.specs.Slots.{into}
 use Rattle.pieces.specs.Taken.{taken}
-use Rattle.pieces.specs.Feed.{Walker, Outcome, gives, stops, wants, fresh, still, feedOf, closeOf}
-use Rattle.pieces.specs.Run.{join, Call, fedCall, closeCall, outcomeOf, stopped, told, Lent, Run, rests, feeds, closes}
-use Rattle.pieces.proofs.VerdictLaws.{never}
+use Rattle.pieces.specs.Feed.{Walker, Outcome, gives, stops, wants, fresh, still, feedOf, closeOf, Feedable}
+use Rattle.pieces.specs.Run.{join, Call, fedCall, closeCall, outcomeOf, stopped, told, Lent, rests, feeds, closes, RunOf}
+use Rattle.pieces.specs.Prompt.{walkTo, Before, lentTo, Prompt}
 use Rattle.pieces.proofs.PlanLaws.{Gives, Denies, read-steady, read-within, read-gives, read-denies}
 use Rattle.pieces.proofs.TakenLaws.{jump, jump-taken, stop, stop-taken}
-use Rattle.pieces.proofs.RunLaws.{lentTo}
-use Rattle.pieces.proofs.Beginnings.{Before, walkTo}
 use Rattle.pieces.proofs.Agreement.{agreement, runs-exist}
-use Rattle.pieces.proofs.Promptness.{Prompt, prompt, repeats}
+use Rattle.pieces.proofs.Promptness.{prompt, repeats}
 
 -- ---- the format
 
@@ -36,7 +38,7 @@ pub record Item : Type 0 where
 
 -- n bytes follow, unless the length is 255
 abbrev pub after-length : ℕ → ℕ → Bool → Plan (Unit {0}) Item
-after-length base n true = deny BadValue base
+after-length base n true = deny (refusalOf BadValue base)
 after-length base n false = want n (λ d. give (record { at = base; bytes = d }) tt)
 
 abbrev pub after-byte : ℕ → List ℕ → Plan (Unit {0}) Item
@@ -46,8 +48,8 @@ unfoldable pub judge : Judge (Unit {0}) Item
 unfolding read
 judge sh base = read 4 base (want 1 (after-byte base)) 0
 
-abbrev pub wrong : Unit {0} → Bool
-wrong sh = false
+abbrev pub wrong : ℕ → Unit {0} → Bool
+wrong total sh = false
 
 -- ---- the theorems, at the format
 
@@ -61,30 +63,30 @@ pub within : (sh : Unit {0}) (base : ℕ) (p : List ℕ) (s e : ℕ) → judge s
 unfolding judge
 within sh base = read-within 4 base (want 1 (after-byte base))
 
-right : (sh : Unit {0}) (base : ℕ) (p : List ℕ) (r : Item) (n : ℕ) (next : Unit {0}) → judge sh base p ≡ sound r n next → wrong sh ≡ false → wrong next ≡ false
-right sh base p r n next j ok = refl
+able : Feedable judge 4 wrong
+able = record { steady = steady; within = within; right = λ sh base p r n next j ok. refl; grows = λ sh t u h ok. refl }
 
 -- Agreement.
-pub agrees : (ps : List (List ℕ)) (last : List ℕ) (cs : List (Call (Unit {0}) Item)) → length (join ps) ≤ 12
-    → Run judge 4 12 wrong ps (fresh tt) last cs → stopped cs ≡ true → (e : Ending) → told e cs ≡ walk judge tt 0 (join ps)
-agrees ps last cs = agreement judge 4 12 wrong steady within right tt ps last cs refl
+pub agrees : (ps : List (List ℕ)) (last : List ℕ) (cs : List (Call (Walker (Unit {0})) Item)) → length (join ps) ≤ 12
+    → RunOf judge 4 12 wrong ps (fresh tt) last cs → stopped cs ≡ true → (e : Ending) → told e cs ≡ walk judge tt 0 (join ps)
+agrees ps last cs = agreement judge 4 12 wrong able tt ps last cs refl
 
 -- Promptness.
-pub is-prompt : (ps : List (List ℕ)) (last : List ℕ) (bs : List (Call (Unit {0}) Item)) (c : Call (Unit {0}) Item) (cs : List (Call (Unit {0}) Item))
-    → length (join ps) ≤ 12 → Run judge 4 12 wrong ps (fresh tt) last (bs ++ (c ∷ cs)) → Prompt judge tt (join ps) bs c
-is-prompt ps last bs c cs = prompt judge 4 12 wrong steady within right tt ps last bs c cs refl
+pub is-prompt : (ps : List (List ℕ)) (last : List ℕ) (bs : List (Call (Walker (Unit {0})) Item)) (c : Call (Walker (Unit {0})) Item) (cs : List (Call (Walker (Unit {0})) Item))
+    → length (join ps) ≤ 12 → RunOf judge 4 12 wrong ps (fresh tt) last (bs ++ (c ∷ cs)) → Prompt judge tt (join ps) bs c
+is-prompt ps last bs c cs = prompt judge 4 12 wrong able tt ps last bs c cs refl
 
 -- After a stop, the same again.
-pub says-again : (ps : List (List ℕ)) (last : List ℕ) (bs : List (Call (Unit {0}) Item)) (c : Call (Unit {0}) Item) (cs : List (Call (Unit {0}) Item))
-    (d : Call (Unit {0}) Item) (ds : List (Call (Unit {0}) Item)) (e : Ending) → length (join ps) ≤ 12
-    → Run judge 4 12 wrong ps (fresh tt) last (bs ++ (c ∷ (cs ++ (d ∷ ds)))) → outcomeOf c .answer ≡ stops e
+pub says-again : (ps : List (List ℕ)) (last : List ℕ) (bs : List (Call (Walker (Unit {0})) Item)) (c : Call (Walker (Unit {0})) Item) (cs : List (Call (Walker (Unit {0})) Item))
+    (d : Call (Walker (Unit {0})) Item) (ds : List (Call (Walker (Unit {0})) Item)) (e : Ending) → length (join ps) ≤ 12
+    → RunOf judge 4 12 wrong ps (fresh tt) last (bs ++ (c ∷ (cs ++ (d ∷ ds)))) → outcomeOf c .answer ≡ stops e
     → outcomeOf d ≡ still (outcomeOf c .walker) (lentTo d) e
-says-again ps last bs c cs d ds e = repeats judge 4 12 wrong steady within right tt ps last bs c cs d ds e refl
+says-again ps last bs c cs d ds e = repeats judge 4 12 wrong able tt ps last bs c cs d ds e refl
 
 -- There are runs that stop.
 pub has-runs : (ps : List (List ℕ)) (hold : List ℕ) → length (join ps) ≤ 12 → 4 ≤ length hold
-    → (cs : List (Call (Unit {0}) Item)) × Run judge 4 12 wrong ps (fresh tt) hold cs × (stopped cs ≡ true)
-has-runs ps hold = runs-exist judge 4 12 wrong steady within right tt ps hold refl
+    → (cs : List (Call (Walker (Unit {0})) Item)) × RunOf judge 4 12 wrong ps (fresh tt) hold cs × (stopped cs ≡ true)
+has-runs ps hold = runs-exist judge 4 12 wrong able tt ps hold refl
 
 -- To go from field's end to field's end takes the same bytes,
 pub jumps : (base : ℕ) (h p : List ℕ) → jump (judge tt base) h p ≡ taken (judge tt base) h p
@@ -109,13 +111,13 @@ items-sized base p r n next = read-gives 4 base (Sized base) (want 1 (after-byte
     go n false = λ d e. (refl, omega arith)
 
 -- It never says 2 itself: only a log that ends does.
-pub never-cut : (base : ℕ) (p : List ℕ) (why : Why) (at : ℕ) → judge tt base p ≡ bad why at → why ≡ FieldCut → ⊥
+pub never-cut : (base : ℕ) (p : List ℕ) (r : Refusal) → judge tt base p ≡ refused r → r .why ≡ FieldCut → ⊥
 unfolding judge
-never-cut base p why at = read-denies 4 base (λ why at. why ≡ FieldCut → ⊥) (λ at e. never (cc)) (want 1 (after-byte base)) 0 p why at
+never-cut base p r = read-denies 4 base (λ r. r .why ≡ FieldCut → ⊥) (λ at e. never cc) (want 1 (after-byte base)) 0 p r
     (λ b l. go (getD b 0 0) (eqb (getD b 0 0) 255))
   where
-    go : (n : ℕ) (t : Bool) → Denies (λ why at. why ≡ FieldCut → ⊥) (after-length base n t)
-    go n true = λ e. never (cc)
+    go : (n : ℕ) (t : Bool) → Denies (λ (r : Refusal). r .why ≡ FieldCut → ⊥) (after-length base n t)
+    go n true = λ e. never cc
     go n false = λ d e. tt
 
 -- ---- logs
@@ -125,40 +127,40 @@ unfolding walk judge
 walked log = walk judge tt 0 log
 
 two-records : walked (1 ∷ 7 ∷ 2 ∷ 8 ∷ 9 ∷ [])
-    ≡ record { records = record { at = 0; bytes = 7 ∷ [] } ∷ record { at = 2; bytes = 8 ∷ 9 ∷ [] } ∷ []; ending = ended 5 0 }
+    ≡ record { records = record { at = 0; bytes = 7 ∷ [] } ∷ record { at = 2; bytes = 8 ∷ 9 ∷ [] } ∷ []; ending = Ending.End 5 0 }
 unfolding walked
 two-records = refl
 
-second-cut : walked (1 ∷ 7 ∷ 2 ∷ 8 ∷ []) ≡ record { records = record { at = 0; bytes = 7 ∷ [] } ∷ []; ending = refused FieldCut 3 }
+second-cut : walked (1 ∷ 7 ∷ 2 ∷ 8 ∷ []) ≡ record { records = record { at = 0; bytes = 7 ∷ [] } ∷ []; ending = refusedWith FieldCut 3 }
 unfolding walked
 second-cut = refl
 
-second-refused : walked (0 ∷ 255 ∷ 2 ∷ []) ≡ record { records = record { at = 0; bytes = [] } ∷ []; ending = refused BadValue 1 }
+second-refused : walked (0 ∷ 255 ∷ 2 ∷ []) ≡ record { records = record { at = 0; bytes = [] } ∷ []; ending = refusedWith BadValue 1 }
 unfolding walked
 second-refused = refl
 
 -- three bytes after the length fit; four do not, and that is 3 and not 2
-reach-to-the-last-byte : walked (3 ∷ []) ≡ only (refused FieldCut 1)
+reach-to-the-last-byte : walked (3 ∷ []) ≡ only (refusedWith FieldCut 1)
 unfolding walked
 reach-to-the-last-byte = refl
 
-one-byte-too-far : walked (4 ∷ []) ≡ only (refused FieldTooFar 1)
+one-byte-too-far : walked (4 ∷ []) ≡ only (refusedWith FieldTooFar 1)
 unfolding walked
 one-byte-too-far = refl
 
 -- one slot, and two records
-slot-short : into (λ (r : Item). r .at) 1 (walked (1 ∷ 7 ∷ 2 ∷ 8 ∷ 9 ∷ [])) ≡ record { records = record { at = 0; bytes = 7 ∷ [] } ∷ []; ending = refused NoSlot 2 }
+slot-short : into (λ (r : Item). r .at) 1 (walked (1 ∷ 7 ∷ 2 ∷ 8 ∷ 9 ∷ [])) ≡ record { records = record { at = 0; bytes = 7 ∷ [] } ∷ []; ending = refusedWith NoSlot 2 }
 unfolding walked into
 slot-short = refl
 
-log-too-long : wholeWalk judge 12 tt (0 ∷ 0 ∷ 0 ∷ 0 ∷ 0 ∷ 0 ∷ 0 ∷ 0 ∷ 0 ∷ 0 ∷ 0 ∷ 0 ∷ 0 ∷ []) ≡ only (refused LogTooLong 12)
+log-too-long : wholeWalk judge 12 tt (0 ∷ 0 ∷ 0 ∷ 0 ∷ 0 ∷ 0 ∷ 0 ∷ 0 ∷ 0 ∷ 0 ∷ 0 ∷ 0 ∷ 0 ∷ []) ≡ only (refusedWith LogTooLong 12)
 unfolding wholeWalk
 log-too-long = refl
 
 -- ---- made-up walkers
 
 abbrev Fed : Type 0
-Fed = Outcome (Unit {0}) Item
+Fed = Outcome (Walker (Unit {0})) Item
 
 unfoldable feed : Walker (Unit {0}) → List ℕ → List ℕ → Fed
 unfolding feedOf taken judge
@@ -188,19 +190,19 @@ unfolding close
 held-record-at-close = refl
 
 -- the same at a total of 12: 13 comes before the held bytes, and a close has no 13
-too-long-first : feed (walker 3 12) (1 ∷ 7 ∷ 5 ∷ 6 ∷ []) (9 ∷ []) ≡ still (walker 3 12) (1 ∷ 7 ∷ 5 ∷ 6 ∷ []) (refused TotalTooLong 12)
+too-long-first : feed (walker 3 12) (1 ∷ 7 ∷ 5 ∷ 6 ∷ []) (9 ∷ []) ≡ still (walker 3 12) (1 ∷ 7 ∷ 5 ∷ 6 ∷ []) (refusedWith TotalTooLong 12)
 unfolding feed
 too-long-first = refl
 
 -- a kept answer, whatever it is, before 13; and 14 before it, where the hold is a byte short
 abbrev kept : Walker (Unit {0})
-kept = done 0 12 (refused LogTooLong 3)
+kept = done 0 12 (refusedWith LogTooLong 3)
 
-kept-before-too-long : feed kept (0 ∷ 0 ∷ 0 ∷ 0 ∷ []) (9 ∷ []) ≡ still kept (0 ∷ 0 ∷ 0 ∷ 0 ∷ []) (refused LogTooLong 3)
+kept-before-too-long : feed kept (0 ∷ 0 ∷ 0 ∷ 0 ∷ []) (9 ∷ []) ≡ still kept (0 ∷ 0 ∷ 0 ∷ 0 ∷ []) (refusedWith LogTooLong 3)
 unfolding feed
 kept-before-too-long = refl
 
-short-hold-first : feed kept (0 ∷ 0 ∷ 0 ∷ []) (9 ∷ []) ≡ still kept (0 ∷ 0 ∷ 0 ∷ []) (refused OutOfRange 0)
+short-hold-first : feed kept (0 ∷ 0 ∷ 0 ∷ []) (9 ∷ []) ≡ still kept (0 ∷ 0 ∷ 0 ∷ []) (refusedWith OutOfRange 0)
 unfolding feed
 short-hold-first = refl
 
@@ -209,23 +211,23 @@ short-hold-first = refl
 abbrev pieces : List (List ℕ)
 pieces = (1 ∷ []) ∷ [] ∷ (7 ∷ 2 ∷ []) ∷ (8 ∷ 9 ∷ []) ∷ []
 
-abbrev first-two : List (Call (Unit {0}) Item)
+abbrev first-two : List (Call (Walker (Unit {0})) Item)
 first-two =
     fedCall (1 ∷ []) (5 ∷ 5 ∷ 5 ∷ 5 ∷ []) (record { answer = wants; count = 1; walker = walker 1 1; hold = 1 ∷ 5 ∷ 5 ∷ 5 ∷ [] })
     ∷ fedCall [] (1 ∷ 6 ∷ 6 ∷ 6 ∷ []) (record { answer = wants; count = 0; walker = walker 1 1; hold = 1 ∷ 6 ∷ 6 ∷ 6 ∷ [] })
     ∷ []
 
-abbrev third : Call (Unit {0}) Item
+abbrev third : Call (Walker (Unit {0})) Item
 third = fedCall (7 ∷ 2 ∷ []) (1 ∷ 4 ∷ 4 ∷ 4 ∷ [])
     (record { answer = gives (record { at = 0; bytes = 7 ∷ [] }); count = 1; walker = walker 0 2; hold = 1 ∷ 7 ∷ 4 ∷ 4 ∷ [] })
 
-abbrev later : List (Call (Unit {0}) Item)
+abbrev later : List (Call (Walker (Unit {0})) Item)
 later =
     fedCall (2 ∷ []) (3 ∷ 3 ∷ 3 ∷ 3 ∷ []) (record { answer = wants; count = 1; walker = walker 1 3; hold = 2 ∷ 3 ∷ 3 ∷ 3 ∷ [] })
     ∷ fedCall (8 ∷ 9 ∷ []) (2 ∷ 0 ∷ 0 ∷ 0 ∷ [])
     (record { answer = gives (record { at = 2; bytes = 8 ∷ 9 ∷ [] }); count = 2; walker = walker 0 5; hold = 2 ∷ 8 ∷ 9 ∷ 0 ∷ [] })
     ∷ fedCall [] (0 ∷ 0 ∷ 0 ∷ 0 ∷ []) (record { answer = wants; count = 0; walker = walker 0 5; hold = 0 ∷ 0 ∷ 0 ∷ 0 ∷ [] })
-    ∷ closeCall (1 ∷ 1 ∷ 1 ∷ 1 ∷ []) (record { answer = stops (ended 5 0); count = 0; walker = done 0 5 (ended 5 0); hold = 1 ∷ 1 ∷ 1 ∷ 1 ∷ [] })
+    ∷ closeCall (1 ∷ 1 ∷ 1 ∷ 1 ∷ []) (record { answer = stops (Ending.End 5 0); count = 0; walker = done 0 5 (Ending.End 5 0); hold = 1 ∷ 1 ∷ 1 ∷ 1 ∷ [] })
     ∷ []
 
 -- four bytes are a hold of full size
@@ -233,11 +235,11 @@ four : {held : ℕ} {last : List ℕ} {a b c d : ℕ} → take held (a ∷ b ∷
 four s = record { size = omega arith; same = s }
 
 -- the last four first: one run of seven is slow to check
-later-calls : Run judge 4 12 wrong ((2 ∷ []) ∷ (8 ∷ 9 ∷ []) ∷ []) (walker 0 2) (1 ∷ 7 ∷ 4 ∷ 4 ∷ []) later
+later-calls : RunOf judge 4 12 wrong ((2 ∷ []) ∷ (8 ∷ 9 ∷ []) ∷ []) (walker 0 2) (1 ∷ 7 ∷ 4 ∷ 4 ∷ []) later
 unfolding feedOf closeOf taken judge
 later-calls = feeds (four refl) refl (feeds (four refl) refl (feeds (four refl) refl (closes (four refl) refl rests)))
 
-seven-calls : Run judge 4 12 wrong pieces (fresh tt) [] (first-two ++ (third ∷ later))
+seven-calls : RunOf judge 4 12 wrong pieces (fresh tt) [] (first-two ++ (third ∷ later))
 unfolding feedOf taken judge
 seven-calls = feeds (four refl) refl (feeds (four refl) refl (feeds (four refl) refl later-calls))
 
@@ -251,16 +253,16 @@ third-first = is-prompt pieces [] first-two third later (omega arith) seven-call
 
 -- ---- a refusal, and the same again at a feed and at a close
 
-abbrev refusing : Call (Unit {0}) Item
+abbrev refusing : Call (Walker (Unit {0})) Item
 refusing = fedCall (255 ∷ 1 ∷ []) (0 ∷ 0 ∷ 0 ∷ 0 ∷ [])
-    (record { answer = stops (refused BadValue 0); count = 1; walker = done 1 1 (refused BadValue 0); hold = 255 ∷ 0 ∷ 0 ∷ 0 ∷ [] })
+    (record { answer = stops (refusedWith BadValue 0); count = 1; walker = done 1 1 (refusedWith BadValue 0); hold = 255 ∷ 0 ∷ 0 ∷ 0 ∷ [] })
 
-abbrev again : Call (Unit {0}) Item
-again = fedCall (3 ∷ []) (255 ∷ 8 ∷ 8 ∷ 8 ∷ []) (still (done 1 1 (refused BadValue 0)) (255 ∷ 8 ∷ 8 ∷ 8 ∷ []) (refused BadValue 0))
+abbrev again : Call (Walker (Unit {0})) Item
+again = fedCall (3 ∷ []) (255 ∷ 8 ∷ 8 ∷ 8 ∷ []) (still (done 1 1 (refusedWith BadValue 0)) (255 ∷ 8 ∷ 8 ∷ 8 ∷ []) (refusedWith BadValue 0))
 
-abbrev at-close : Call (Unit {0}) Item
-at-close = closeCall (255 ∷ 9 ∷ 9 ∷ 9 ∷ []) (still (done 1 1 (refused BadValue 0)) (255 ∷ 9 ∷ 9 ∷ 9 ∷ []) (refused BadValue 0))
+abbrev at-close : Call (Walker (Unit {0})) Item
+at-close = closeCall (255 ∷ 9 ∷ 9 ∷ 9 ∷ []) (still (done 1 1 (refusedWith BadValue 0)) (255 ∷ 9 ∷ 9 ∷ 9 ∷ []) (refusedWith BadValue 0))
 
-refused-again : Run judge 4 12 wrong ((255 ∷ 1 ∷ []) ∷ (3 ∷ []) ∷ []) (fresh tt) [] (refusing ∷ again ∷ at-close ∷ [])
+refused-again : RunOf judge 4 12 wrong ((255 ∷ 1 ∷ []) ∷ (3 ∷ []) ∷ []) (fresh tt) [] (refusing ∷ again ∷ at-close ∷ [])
 unfolding feedOf closeOf taken judge
 refused-again = feeds (four refl) refl (feeds (four refl) refl (closes (four refl) refl rests))

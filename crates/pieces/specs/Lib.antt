@@ -6,3 +6,4 @@ pub mod Slots
 pub mod Taken
 pub mod Feed
 pub mod Run
+pub mod Prompt

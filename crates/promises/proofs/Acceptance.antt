@@ -1,5 +1,5 @@
 -- Demand 2: a log is accepted exactly when it is well formed, and its division is the only one.
--- `FillSays log old r slots` is the promise of the code (`fill` of `walk`, and `fill_table` of the first slots of its table): r is what a walk
+-- `FillSays log old r slots` is the promise of the code (`fill` of `walk`, and `fill_table` of `by_value`, of the first slots of its table): r is what a walk
 -- of the log over the slots `old` answers, and `slots` are the slots after it. `Bytes log` says that the log is bytes, as every slice of u8 is.
 --   filled            what r and the slots say of the log, whatever the ending
 --   accepted          acceptance, for every log and any number of slots
@@ -11,52 +11,34 @@ use mathlib.Core.List.{List}
 use mathlib.Core.Logic.{_↔_}
 use lib.ListN.{length, take}
 use lib.Seq.{take-append-seam}
-use Rattle.number.specs.Number.{Bytes}
+use Rattle.numbers.specs.Number.{Bytes}
+use Rattle.refusal.specs.declared.Ending.{Ending}
 use Rattle.refusal.specs.Limits.{logMost}
-use Rattle.refusal.specs.Tests.{refusalOf}
-use Rattle.pieces.specs.Walk.{ended, refused, Told, walk}
-use Rattle.pieces.specs.Walk as P
-use Rattle.pieces.proofs.VerdictLaws.{never}
+use Rattle.pieces.specs.Walk.{Told, walk}
 use Rattle.record.specs.declared.Slot.{Slot}
-use Rattle.record.specs.Record.{judgeOf}
-use Rattle.walk.specs.Turn.{openingShape}
-use Rattle.walk.specs.declared.Ending.{Ending}
+use Rattle.record.specs.Record.{judgeOf, openingShape}
 use Rattle.walk.specs.declared.Walked.{Walked}
-use Rattle.walk.specs.Fill.{endingOf, walkedOf, toldInto, walkedBy, slotsBy, FillSays}
-use Rattle.promises.specs.Divides.{Divides, Means}
-use Rattle.promises.proofs.Means.{told, stops-walked, means}
-
--- endings of the definitions that the code tells alike are the same
-ending-one : (e f : P.Ending) → endingOf e ≡ endingOf f → e ≡ f
-ending-one (ended at tail) (ended at′ tail′) q = let a : at ≡ at′ = cc in let t : tail ≡ tail′ = cc in rw (a, t)
-ending-one (ended at tail) (refused why at′) q = never (cc)
-ending-one (refused why at) (ended at′ tail) q = never (cc)
-ending-one (refused why at) (refused why′ at′) q =
-    let r : refusalOf why at ≡ refusalOf why′ at′ = cc in
-    let w : why ≡ why′ = ap (λ x. x .why) r in
-    let a : at ≡ at′ = ap (λ x. x .at) r in
-    rw (w, a)
+use Rattle.walk.specs.Fill.{walkedOf, toldInto, walkedBy, slotsBy, FillSays}
+use Rattle.walk.specs.Divides.{Divides, Means}
+use Rattle.promises.specs.Answers.{Filled}
+use Rattle.walk.proofs.Means.{told, stops-walked, means}
 
 module _ (log : List ℕ) (is : Bytes log) (old : List Slot) (r : Walked) (slots : List Slot) (says : FillSays log old r slots) where
-  -- the first slots hold these records, and the walk ended so
-  abbrev pub Filled : List Slot → P.Ending → Type 0
-  Filled rs e = (r ≡ walkedOf (length rs) (endingOf e)) × (take (length rs) slots ≡ rs)
-
-  filled-told : (rs : List Slot) (e : P.Ending) → Filled rs e → toldInto (length old) log ≡ told rs e
+  filled-told : (rs : List Slot) (e : Ending) → Filled r slots rs e → toldInto (length old) log ≡ told rs e
   filled-told rs e (w, s) =
       let t = toldInto (length old) log in
-      let same : walkedBy t ≡ walkedOf (length rs) (endingOf e) = sym (says .0) ∙ w in
+      let same : walkedBy t ≡ walkedOf (length rs) e = sym (says .0) ∙ w in
       let n : length (t .records) ≡ length rs = ap (λ x. x .filled) same in
-      let f : t .ending ≡ e = ending-one (t .ending) e (ap (λ x. x .ending) same) in
+      let f : t .ending ≡ e = ap (λ x. x .ending) same in
       let l : t .records ≡ rs = sym (take-append-seam (t .records) _) ∙ ap (λ m. take m (slotsBy t old)) n ∙ ap (take (length rs)) (sym (says .1)) ∙ s in
       ap (λ x. told x (t .ending)) l ∙ ap (told rs) f
 
-  told-filled : (rs : List Slot) (e : P.Ending) → toldInto (length old) log ≡ told rs e → Filled rs e
+  told-filled : (rs : List Slot) (e : Ending) → toldInto (length old) log ≡ told rs e → Filled r slots rs e
   told-filled rs e q =
       (says .0 ∙ ap walkedBy q, ap (take (length rs)) (says .1 ∙ ap (λ t. slotsBy t old) q) ∙ take-append-seam rs _)
 
   -- The walk fills the first slots with these records and ends so exactly where that is what the log is.
-  pub filled : (rs : List Slot) (e : P.Ending) → Filled rs e ↔ Means (length old) log rs e
+  pub filled : (rs : List Slot) (e : Ending) → Filled r slots rs e ↔ Means (length old) log rs e
   filled rs e = (λ f. means log is (length old) rs e .0 (filled-told rs e f), λ m. told-filled rs e (means log is (length old) rs e .1 m))
 
   -- ACCEPTANCE. The walk ends at `at` with a tail, and the slots hold these records, if and only if the log has at most 65,536 bytes, there
@@ -64,19 +46,19 @@ module _ (log : List ℕ) (is : Bytes log) (old : List Slot) (r : Walked) (slots
   pub accepted : (rs : List Slot) (at tail : ℕ)
       → ((r ≡ walkedOf (length rs) (Ending.End at tail)) × (take (length rs) slots ≡ rs))
       ↔ ((length log ≤ logMost) × (length rs ≤ length old) × Divides log rs at tail)
-  accepted rs at tail = filled rs (ended at tail)
+  accepted rs at tail = filled rs (Ending.End at tail)
 
 -- a division is what the walk tells
-divided : (log : List ℕ) → Bytes log → (rs : List Slot) (at tail : ℕ) → Divides log rs at tail → walk judgeOf openingShape 0 log ≡ told rs (ended at tail)
+divided : (log : List ℕ) → Bytes log → (rs : List Slot) (at tail : ℕ) → Divides log rs at tail → walk judgeOf openingShape 0 log ≡ told rs (Ending.End at tail)
 divided log is rs at tail d =
-    stops-walked log is 0 (d .front) (d .rest) rs (d .last) (ended at tail) (d .begins .whole) (d .begins .chain) (d .ends, d .over, d .few)
+    stops-walked log is 0 (d .front) (d .rest) rs (d .last) (Ending.End at tail) (d .begins .whole) (d .begins .chain) (d .ends, d .over, d .few)
 
 -- THE ONLY DIVISION. A log, of any length, has at most one division.
 pub only-division : (log : List ℕ) → Bytes log → (rs rs′ : List Slot) (at at′ tail tail′ : ℕ) → Divides log rs at tail → Divides log rs′ at′ tail′
     → (rs ≡ rs′) × (at ≡ at′) × (tail ≡ tail′)
 only-division log is rs rs′ at at′ tail tail′ d d′ =
-    let same : told rs (ended at tail) ≡ told rs′ (ended at′ tail′) = sym (divided log is rs at tail d) ∙ divided log is rs′ at′ tail′ d′ in
-    let e : ended at tail ≡ ended at′ tail′ = ap (λ (t : Told Slot). t .ending) same in
+    let same : told rs (Ending.End at tail) ≡ told rs′ (Ending.End at′ tail′) = sym (divided log is rs at tail d) ∙ divided log is rs′ at′ tail′ d′ in
+    let e : Ending.End at tail ≡ Ending.End at′ tail′ = ap (λ (t : Told Slot). t .ending) same in
     let a : at ≡ at′ = cc in
     let t : tail ≡ tail′ = cc in
     (ap (λ (t : Told Slot). t .records) same, a, t)

@@ -6,20 +6,21 @@ use mathlib.Core.List.{List, [], _∷_, _++_}
 use lib.Dec.{ltb}
 use lib.ListN.{replicate}
 use borrow.Author.Tests.{ltb-true}
-use Rattle.number.specs.Number.{bytesOf, Bytes}
-use Rattle.number.specs.Range.{spanOf}
-use Rattle.number.proofs.NumberLaws.{bytes-nil, bytes-cons}
+use Rattle.numbers.proofs.ByCases.{never}
+use Rattle.numbers.specs.Number.{bytesOf, Bytes}
+use Rattle.numbers.specs.Range.{spanOf}
+use Rattle.numbers.proofs.NumberLaws.{bytes-nil, bytes-cons}
+use Rattle.refusal.specs.declared.Ending.{Ending}
 use Rattle.contents.specs.declared.Contents.{Contents}
 use Rattle.contents.proofs.Cases.{computing as dataComputing}
 use Rattle.record.proofs.Cases.{computing as recordComputing}
 use Rattle.pieces.specs.Slots.{into}
-use Rattle.pieces.specs.Walk.{ended, walkF, walk, wholeWalk}
-use Rattle.pieces.proofs.VerdictLaws.{never}
+use Rattle.pieces.specs.Walk.{walkF, walk, wholeWalk}
 use Rattle.record.specs.declared.Slot.{Slot}
 use Rattle.walk.specs.Fill.{toldInto}
 use Rattle.promises.specs.Bench.{one, specId, markerOf}
-use Rattle.promises.specs.Divides.{Divides}
-use Rattle.promises.proofs.Means.{told, means}
+use Rattle.walk.specs.Divides.{Divides}
+use Rattle.walk.proofs.Means.{told, means}
 
 -- whether each element is a byte
 abbrev small : List ℕ → Bool
@@ -33,7 +34,7 @@ small-bytes (b ∷ bs) e = go (ltb b 256) refl e (small-bytes bs)
   where
     go : (t : Bool) → ltb b 256 ≡ t → cond t (small bs) false ≡ true → (small bs ≡ true → Bytes bs) → Bytes (b ∷ bs)
     go true i e rest = bytes-cons b bs (ltb-true b 256 i) (rest e)
-    go false i e rest = never (cc)
+    go false i e rest = never cc
 
 abbrev log : List ℕ
 log =
@@ -42,18 +43,18 @@ log =
     ++ replicate 3 9
 
 abbrev marker : Slot
-marker = record { start = 0; register = 0; event = 3; place = 8; digests = 1; «data» = spanOf 32 37; contents = markerOf 2 69 }
+marker = record { start = 0; register = 0; event = 3; «digest_place» = 8; digests = 1; «data» = spanOf 32 37; contents = markerOf 2 69 }
 
 abbrev second : Slot
-second = record { start = 69; register = 7; event = 6; place = 81; digests = 2; «data» = spanOf 141 1; contents = Contents.Empty }
+second = record { start = 69; register = 7; event = 6; «digest_place» = 81; digests = 2; «data» = spanOf 141 1; contents = Contents.Empty }
 
 is-bytes : Bytes log
 unfolding dataComputing
 is-bytes = small-bytes log refl
 
-walked : toldInto 2 log ≡ told (marker ∷ second ∷ []) (ended 142 3)
+walked : toldInto 2 log ≡ told (marker ∷ second ∷ []) (Ending.End 142 3)
 unfolding dataComputing recordComputing walkF walk wholeWalk into toldInto
 walked = refl
 
 pub divides : Divides log (marker ∷ second ∷ []) 142 3
-divides = means log is-bytes 2 (marker ∷ second ∷ []) (ended 142 3) .0 walked .2
+divides = means log is-bytes 2 (marker ∷ second ∷ []) (Ending.End 142 3) .0 walked .2

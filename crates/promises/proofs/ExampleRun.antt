@@ -7,21 +7,18 @@ use native.Mathlib.Omega.{arith}
 use lib.ListN.{length, drop, length-drop}
 use Rattle.refusal.specs.declared.Why.{Why}
 use Rattle.refusal.specs.Limits.{logMost, holdFull}
-use Rattle.refusal.specs.Tests.{refusalOf}
+use Rattle.refusal.specs.Endings.{refusedWith}
 use Rattle.contents.proofs.Cases.{computing as dataComputing}
 use Rattle.record.proofs.Cases.{computing as recordComputing}
-use Rattle.pieces.specs.Walk.{refused}
 use Rattle.pieces.specs.Taken.{taken}
 use Rattle.pieces.specs.Feed.{stops, wants, fresh}
+use Rattle.pieces.specs.Run.{fedCall, closeCall, rests, feeds, closes}
 use Rattle.pieces.proofs.FeedLaws.{InRange, feed-passed, close-passed}
-use Rattle.record.specs.Record.{judgeOf}
-use Rattle.walk.specs.Turn.{openingShape}
-use Rattle.walker.specs.declared.Answer.{Answer}
+use Rattle.record.specs.Record.{judgeOf, openingShape}
 use Rattle.walker.specs.declared.Kept.{Kept}
-use Rattle.walker.specs.declared.Reply.{Reply}
 use Rattle.walker.specs.declared.Walker.{Walker}
 use Rattle.walker.specs.Walker.{walkerOf, walkerBy, replyBy, freshWalker, wrong, feedTo, closeTo}
-use Rattle.promises.specs.Runs.{feed, close, Run, rests, feeds, closes}
+use Rattle.promises.specs.Runs.{Run}
 
 abbrev zeros : List ℕ
 zeros = 0 ∷ 0 ∷ 0 ∷ 0 ∷ []
@@ -29,12 +26,6 @@ zeros = 0 ∷ 0 ∷ 0 ∷ 0 ∷ []
 -- a walker that holds four bytes
 abbrev four : Kept → Walker
 four kept = record { held = 4; total = 4; shape = openingShape; kept = kept }
-
-abbrev wants-more : ℕ → Reply
-wants-more n = record { answer = Answer.More; count = n }
-
-abbrev cut : Reply
-cut = record { answer = Answer.Refused (refusalOf Why.FieldCut 4); count = 0 }
 
 module _ (h₁ h₂ : List ℕ) (full₁ : holdFull ≤ length h₁) (full₂ : holdFull ≤ length h₂) where
   -- the second hold after the second call
@@ -57,17 +48,17 @@ module _ (h₁ h₂ : List ℕ) (full₁ : holdFull ≤ length h₁) (full₂ : 
   second = feed-passed judgeOf holdFull logMost wrong (walkerOf freshWalker) h₂ (ranged freshWalker h₂ full₂ (omega arith) refl refl) zeros refl (omega arith)
 
   third : closeTo (four Kept.Open) h₃
-      ≡ record { answer = stops (refused Why.FieldCut 4); count = 0; walker = walkerOf (four (Kept.Refused (refusalOf Why.FieldCut 4))); hold = h₃ }
+      ≡ record { answer = stops (refusedWith Why.FieldCut 4); count = 0; walker = walkerOf (four (Kept.Stopped (refusedWith Why.FieldCut 4))); hold = h₃ }
   unfolding closeTo dataComputing recordComputing
   third = close-passed judgeOf holdFull logMost wrong (walkerOf (four Kept.Open)) h₃ (ranged (four Kept.Open) h₃ full₃ (omega arith) refl refl) refl
 
   pub run : Run ([] ∷ zeros ∷ []) freshWalker h₁
-      (feed [] h₁ (wants-more 0) freshWalker h₁
-      ∷ feed zeros h₂ (wants-more 4) (four Kept.Open) h₃
-      ∷ close h₃ cut (four (Kept.Refused (refusalOf Why.FieldCut 4)))
+      (fedCall [] h₁ (record { answer = wants; count = 0; walker = freshWalker; hold = h₁ })
+      ∷ fedCall zeros h₂ (record { answer = wants; count = 4; walker = four Kept.Open; hold = h₃ })
+      ∷ closeCall h₃ (record { answer = stops (refusedWith Why.FieldCut 4); count = 0; walker = four (Kept.Stopped (refusedWith Why.FieldCut 4)); hold = h₃ })
       ∷ [])
   run =
       feeds (record { size = full₁; same = refl }) (ap replyBy (sym first), ap (λ o. walkerBy (o .walker)) (sym first), ap (λ o. o .hold) (sym first))
       (feeds (record { size = full₂; same = refl }) (ap replyBy (sym second), ap (λ o. walkerBy (o .walker)) (sym second), ap (λ o. o .hold) (sym second))
-      (closes (record { size = full₃; same = refl }) (ap replyBy (sym third), ap (λ o. walkerBy (o .walker)) (sym third))
+      (closes (record { size = full₃; same = refl }) ((ap replyBy (sym third), ap (λ o. walkerBy (o .walker)) (sym third)), refl)
       rests))

@@ -2,16 +2,12 @@
 --   Acceptance, Refusals, Slots   a walk into slots (demands 1 and 2)
 --   Pieces, OwnAnswers            feeding by pieces (demand 3)
 --   OneOutcome                    each promise leaves one outcome
+--   ListingTurns                  the listing, turn by turn
 --   Bench                         document 01's starred logs
 --   Idle, IdleFeeds               programs that do not meet the promises
 --   Example, ExampleRun           the premises are met
--- What leads there: FieldLaws, SpeltLaws, Judged, Explained, ChainLaws and Means for the walk, RunLaws for the pieces.
-pub mod FieldLaws
-pub mod SpeltLaws
-pub mod Judged
-pub mod Explained
-pub mod ChainLaws
-pub mod Means
+-- What leads there stands with what it is about: proofs/Explained.antt of `record`, proofs/Means.antt of `walk`, proofs/Promptness.antt and
+-- proofs/Agreement.antt of `pieces`; RunLaws is between the code's runs and those.
 pub mod Acceptance
 pub mod Refusals
 pub mod Slots
@@ -23,4 +19,5 @@ pub mod Pieces
 pub mod ExampleRun
 pub mod IdleFeeds
 pub mod OneOutcome
+pub mod ListingTurns
 pub mod OwnAnswers

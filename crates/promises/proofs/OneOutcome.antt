@@ -3,6 +3,7 @@
 --   table-one, table-some   a walk over the first slots of a table
 --   feed-one, feed-some     a feed, by value or where the walker lies
 --   close-one, close-some   a close, likewise; it has the hold to read only
+--   puts-one, -some         a text put at a place of a lent buffer
 --   writes-one, -some       a line of the listing, written to a lent buffer
 -- Assumes nothing.
 use Prim.Native.Nat.{ℕ}
@@ -12,13 +13,14 @@ use lib.Dec.{leb}
 use lib.ListN.{length, take, drop, take-append-drop}
 use Rattle.record.specs.declared.Slot.{Slot}
 use Rattle.walk.specs.declared.Walked.{Walked}
-use Rattle.walk.specs.Fill.{toldInto, walkedBy, slotsBy, FillSays, TableSays}
-use Rattle.walk.proofs.FillLaws.{table-says}
+use Rattle.walk.specs.Fill.{toldInto, walkedBy, slotsBy, FillSays}
+use Rattle.by_value.specs.Table.{TableSays}
+use Rattle.by_value.proofs.TableLaws.{table-says}
 use Rattle.walker.specs.declared.Reply.{Reply}
 use Rattle.walker.specs.declared.Walker.{Walker}
 use Rattle.walker.specs.Walker.{replyBy, walkerBy, feedTo, closeTo, FeedSays, CloseSays}
-use Rattle.lines.specs.declared.Written.{Written}
-use Rattle.lines.specs.Line.{writtenBy, bufferBy, Writes}
+use Rattle.buffer.specs.declared.Written.{Written}
+use Rattle.buffer.specs.Writes.{putEnd, putAt, Puts, writtenBy, bufferBy, Writes}
 use Rattle.promises.proofs.Slots.{slots-kept}
 
 pub fill-one : (log : List ℕ) (old : List Slot) (r r′ : Walked) (slots slots′ : List Slot) → FillSays log old r slots → FillSays log old r′ slots′
@@ -53,6 +55,12 @@ close-one w hold r r′ v v′ a b = (a .0 ∙ sym (b .0), a .1 ∙ sym (b .1))
 
 pub close-some : (w : Walker) (hold : List ℕ) → CloseSays w hold (replyBy (closeTo w hold)) (walkerBy (closeTo w hold .walker))
 close-some w hold = (refl, refl)
+
+pub puts-one : (text : List ℕ) (at : ℕ) (old : List ℕ) (r r′ : ℕ) (new new′ : List ℕ) → Puts text at old r new → Puts text at old r′ new′ → (r ≡ r′) × (new ≡ new′)
+puts-one text at old r r′ new new′ a b = (a .ends ∙ sym (b .ends), a .holds ∙ sym (b .holds))
+
+pub puts-some : (text : List ℕ) (at : ℕ) (old : List ℕ) → Puts text at old (putEnd text at old) (putAt text at old)
+puts-some text at old = record { ends = refl; holds = refl }
 
 pub writes-one : (text old : List ℕ) (r r′ : Written) (new new′ : List ℕ) → Writes text old r new → Writes text old r′ new′ → (r ≡ r′) × (new ≡ new′)
 writes-one text old r r′ new new′ a b = (a .0 ∙ sym (b .0), a .1 ∙ sym (b .1))

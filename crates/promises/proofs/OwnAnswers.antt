@@ -1,77 +1,65 @@
 -- What a feed and a close say of their own, that is, where the walker keeps no answer (document 01, "feeds, having no slots, never answer 1 or
 -- 12"): for every walker, made up or not, and every hold and piece.
---   feed-own    a feed wants more, gives a record, or refuses with 3 to 11, 13 or 14; it never gives the end
---   close-own   a close gives a record or the end, or refuses with 2 to 11 or 14; it never wants more
+--   feed-own    `OfFeed` (specs/Answers.antt): a feed wants more, gives a record, or refuses with 3 to 11, 13 or 14; it never gives the end
+--   close-own   `OfClose`: a close gives a record or the end, or refuses with 2 to 11 or 14; it never wants more
 -- Assumes nothing.
 use Prim.Native.Nat.{ℕ, zero, suc, _+_, _≤_}
 use mathlib.Core.Path.{_≡_, refl, ap}
+use mathlib.Core.Logic.{inl, inr}
 use mathlib.Core.List.{List}
 use mathlib.Core.Option.{none}
 use native.Mathlib.Omega.{arith}
 use lib.ListN.{length}
-use Rattle.number.proofs.ByCases.{split, test}
-use Rattle.refusal.specs.declared.Why.{Why}
+use Rattle.numbers.proofs.ByCases.{split, test}
+use Rattle.refusal.specs.declared.Refusal.{Refusal}
 use Rattle.refusal.specs.Limits.{logMost, holdFull}
-use Rattle.refusal.specs.Refusals.{numberOf}
-use Rattle.pieces.specs.Verdict.{Verdict, more, sound, bad}
+use Rattle.pieces.specs.Verdict.{Verdict, more, sound, refused}
 use Rattle.pieces.specs.Feed.{Outcome, outOfRange, feedOf, closeOf, fed, closed}
 use Rattle.pieces.specs.Feed as F
 use Rattle.pieces.proofs.FeedLaws.{passed-range, feed-out, feed-long, feed-passed, close-out, close-passed}
 use Rattle.record.specs.declared.Shape.{Shape}
 use Rattle.record.specs.declared.Slot.{Slot}
 use Rattle.record.specs.Record.{judgeOf}
-use Rattle.record.proofs.WhyLaws.{OfRecord, record-why}
+use Rattle.record.specs.Met.{OfRecord}
+use Rattle.record.proofs.WhyLaws.{record-why}
 use Rattle.walker.specs.declared.Answer.{Answer}
 use Rattle.walker.specs.declared.Kept.{Kept}
 use Rattle.walker.specs.declared.Reply.{Reply}
 use Rattle.walker.specs.declared.Walker.{Walker}
 use Rattle.walker.specs.Walker.{keptOf, walkerOf, answerBy, wrong, feedTo, closeTo, FeedSays, CloseSays}
+use Rattle.promises.specs.Answers.{OfFeed, OfClose}
 
--- the numbers run from 1 to 14
-abbrev pub OfFeed : Answer → Type 0
-OfFeed Answer.More = Unit {0}
-OfFeed (Answer.Record slot) = Unit {0}
-OfFeed (Answer.End at tail) = ⊥
-OfFeed (Answer.Refused r) = (3 ≤ numberOf (r .why)) × (numberOf (r .why) ≡ 12 → ⊥)
-
-abbrev pub OfClose : Answer → Type 0
-OfClose Answer.More = ⊥
-OfClose (Answer.Record slot) = Unit {0}
-OfClose (Answer.End at tail) = Unit {0}
-OfClose (Answer.Refused r) = (2 ≤ numberOf (r .why)) × (numberOf (r .why) ≡ 12 → ⊥) × (numberOf (r .why) ≡ 13 → ⊥)
-
-abbrev answered : Outcome Shape Slot → Answer
+abbrev answered : Outcome (F.Walker Shape) Slot → Answer
 answered o = answerBy (o .answer)
 
 -- what a judge refuses is of a record
 abbrev Refusing : Verdict Shape Slot → Type 0
-Refusing v = (why : Why) (at : ℕ) → v ≡ bad why at → OfRecord why
+Refusing v = (r : Refusal) → v ≡ refused r → OfRecord (r .why)
 
 module _ (w : F.Walker Shape) (hold : List ℕ) where
   fed-own : (hold′ : List ℕ) (n : ℕ) (v : Verdict Shape Slot) → Refusing v → OfFeed (answered (fed w hold′ n v))
   fed-own hold′ n (more s e) h = tt
   fed-own hold′ n (sound slot m next) h = tt
-  fed-own hold′ n (bad why at) h = let (low, high) = h why at refl in (low, λ e. absurd (omega (arith, high, e)))
+  fed-own hold′ n (refused r) h = inl (h r refl)
 
   closed-own : (p : List ℕ) (v : Verdict Shape Slot) → Refusing v → OfClose (answered (closed w hold p v))
   closed-own p (more zero e) h = tt
-  closed-own p (more (suc s) e) h = (omega arith, λ e. absurd (omega (arith, e)), λ e. absurd (omega (arith, e)))
+  closed-own p (more (suc s) e) h = inr (inl refl)
   closed-own p (sound slot m next) h = tt
-  closed-own p (bad why at) h =
-      let (low, high) = h why at refl in (omega (arith, low), λ e. absurd (omega (arith, high, e)), λ e. absurd (omega (arith, high, e)))
+  closed-own p (refused r) h = inl (h r refl)
 
   module _ (k : w .kept ≡ none) where
     feeds : (piece : List ℕ) → OfFeed (answered (feedOf judgeOf holdFull logMost wrong w hold piece))
     feeds piece = test (outOfRange judgeOf holdFull logMost wrong w hold)
-        (λ out. rw (feed-out judgeOf holdFull logMost wrong w hold piece out) (omega arith, λ e. absurd (omega (arith, e))))
+        (λ out. rw (feed-out judgeOf holdFull logMost wrong w hold piece out) (inr refl))
         (λ passed. let i = passed-range judgeOf holdFull logMost wrong w hold passed in
         split (w .total + length piece) logMost
         (λ fits. rw (feed-passed judgeOf holdFull logMost wrong w hold i piece k fits) (fed-own _ _ _ (record-why _ _ _)))
-        (λ long. rw (feed-long judgeOf holdFull logMost wrong w hold i piece k long) (omega arith, λ e. absurd (omega (arith, e)))))
+        (λ long. rw (feed-long judgeOf holdFull logMost wrong w hold i piece k long) (inr refl)))
 
     closes : OfClose (answered (closeOf judgeOf holdFull logMost wrong w hold))
     closes = test (outOfRange judgeOf holdFull logMost wrong w hold)
-        (λ out. rw (close-out judgeOf holdFull logMost wrong w hold out) (omega arith, λ e. absurd (omega (arith, e)), λ e. absurd (omega (arith, e))))
+        (λ out. rw (close-out judgeOf holdFull logMost wrong w hold out) (inr (inr refl)))
         (λ passed. rw (close-passed judgeOf holdFull logMost wrong w hold (passed-range judgeOf holdFull logMost wrong w hold passed) k)
         (closed-own _ _ (record-why _ _ _)))
 

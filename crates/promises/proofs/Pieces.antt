@@ -7,77 +7,80 @@
 --   pieces-run        and however a log is cut there is a run that comes to a stop
 -- The calls may be of the forms by value or of those where the walker lies. Assumes nothing.
 use Prim.Native.Nat.{ℕ, _≤_}
-use mathlib.Core.Path.{_≡_, refl, sym, _∙_}
+use mathlib.Core.Path.{_≡_, refl, sym, ap, _∙_}
 use mathlib.Core.Bool.{true, false}
 use mathlib.Core.List.{List, _∷_, _++_}
 use lib.ListN.{length}
 use borrow.Author.Tests.{le-ltb, ltb-false}
+use Rattle.refusal.specs.declared.Ending.{Ending}
 use Rattle.refusal.specs.Limits.{logMost, pairsMost, holdFull}
-use Rattle.pieces.specs.Verdict.{sound}
-use Rattle.pieces.specs.Walk.{Ending, wholeWalk}
-use Rattle.pieces.specs.Feed.{stops, still}
+use Rattle.pieces.specs.Walk.{wholeWalk}
+use Rattle.pieces.specs.Feed.{stops, still, Outcome, Feedable}
 use Rattle.pieces.specs.Feed as F
-use Rattle.pieces.specs.Run.{join, stopped, told}
-use Rattle.pieces.specs.Run as R
+use Rattle.pieces.specs.Run.{join, outcomeOf, stopped, told, RunOf, seenAs}
+use Rattle.pieces.specs.Prompt.{lentTo, Prompt}
 use Rattle.pieces.proofs.WalkLaws.{wholeWalk-fits}
-use Rattle.pieces.proofs.RunLaws.{lentTo}
+use Rattle.pieces.proofs.RunLaws.{callsSeen-append, callsSeen-told, callsSeen-stopped}
 use Rattle.pieces.proofs.Agreement.{agreement, runs-exist}
-use Rattle.pieces.proofs.Promptness.{Prompt, prompt, repeats, stays-shut}
-use Rattle.record.specs.declared.Shape.{Shape}
+use Rattle.pieces.proofs.Promptness.{prompt, repeats, stays-shut}
 use Rattle.record.specs.declared.Slot.{Slot}
-use Rattle.record.specs.Record.{judgeOf}
+use Rattle.record.specs.Record.{openingShape, judgeOf}
 use Rattle.record.proofs.RecordLaws.{record-steady, record-within, record-placed}
-use Rattle.walk.specs.Turn.{openingShape}
-use Rattle.walker.specs.declared.Reply.{Reply}
 use Rattle.walker.specs.declared.Walker.{Walker}
-use Rattle.walker.specs.Walker.{walkerOf, freshWalker, wrong, FeedSays, CloseSays}
-use Rattle.promises.specs.Runs.{Call, Run, outcomeOf, callOf, callsOf}
-use Rattle.promises.proofs.RunLaws.{run-of, run-by, callsOf-append, callsBy, stopped-by, feed-outcome, close-outcome}
+use Rattle.walker.specs.Walker.{walkerOf, walkerBy, freshWalker, wrong}
+use Rattle.promises.specs.Runs.{Feeds, Closes, Call, Run, callOf, callsOf}
+use Rattle.promises.proofs.RunLaws.{run-of, run-by, callsBy, feed-outcome, close-outcome}
 
--- what follows a sound record counts no more pairs than the table holds
-right : (sh : Shape) (base : ℕ) (p : List ℕ) (slot : Slot) (n : ℕ) (next : Shape) → judgeOf sh base p ≡ sound slot n next → wrong sh ≡ false → wrong next ≡ false
-right sh base p slot n next j ok =
-    le-ltb pairsMost (next .pairs .count) (record-placed sh base p slot n next j .few (ltb-false pairsMost (sh .pairs .count) ok))
+-- A log may be fed to the judge of a record: what follows a sound record counts no more pairs than the table holds, whatever the total.
+pub feedable : Feedable judgeOf holdFull wrong
+feedable = record {
+  steady = record-steady;
+  within = record-within;
+  right = λ sh base p slot n next j ok.
+      le-ltb pairsMost (next .pairs .count) (record-placed sh base p slot n next j .few (ltb-false pairsMost (sh .pairs .count) ok));
+  grows = λ sh t u h ok. ok;
+}
 
 module _ (ps : List (List ℕ)) (short : length (join ps) ≤ logMost) (last : List ℕ) where
   -- the run in the terms of `pieces`, at one of its calls
   at-call : (bs : List Call) (c : Call) (cs : List Call) → Run ps freshWalker last (bs ++ (c ∷ cs))
-      → R.Run judgeOf holdFull logMost wrong ps (F.fresh openingShape) last (callsOf bs ++ (callOf c ∷ callsOf cs))
-  at-call bs c cs r = rw (callsOf-append bs (c ∷ cs)) at (run-of r)
+      → RunOf judgeOf holdFull logMost wrong ps (F.fresh openingShape) last (callsOf bs ++ (callOf c ∷ callsOf cs))
+  at-call bs c cs r = rw (callsSeen-append walkerOf bs (c ∷ cs)) at (run-of r)
 
   -- (a) to (e): each record or early refusal comes in the call that brings the last byte it needs, with the number of bytes taken.
   pub pieces-prompt : (bs : List Call) (c : Call) (cs : List Call) → Run ps freshWalker last (bs ++ (c ∷ cs))
       → Prompt judgeOf openingShape (join ps) (callsOf bs) (callOf c)
   pieces-prompt bs c cs r =
-      prompt judgeOf holdFull logMost wrong record-steady record-within right openingShape ps last (callsOf bs) (callOf c) (callsOf cs) refl short (at-call bs c cs r)
+      prompt judgeOf holdFull logMost wrong feedable openingShape ps last (callsOf bs) (callOf c) (callsOf cs) refl short (at-call bs c cs r)
 
   -- (g) Once a call has stopped, the records that the calls gave, in order, and the ending are those of the whole walk.
-  pub pieces-agree : (cs : List Call) → Run ps freshWalker last cs → stopped (callsOf cs) ≡ true → (e : Ending)
-      → told e (callsOf cs) ≡ wholeWalk judgeOf logMost openingShape (join ps)
+  pub pieces-agree : (cs : List Call) → Run ps freshWalker last cs → stopped cs ≡ true → (e : Ending)
+      → told e cs ≡ wholeWalk judgeOf logMost openingShape (join ps)
   pieces-agree cs r t e =
-      agreement judgeOf holdFull logMost wrong record-steady record-within right openingShape ps last (callsOf cs) refl short (run-of r) t e
+      sym (callsSeen-told walkerOf e cs)
+      ∙ agreement judgeOf holdFull logMost wrong feedable openingShape ps last (callsOf cs) refl short (run-of r) (callsSeen-stopped walkerOf cs ∙ t) e
       ∙ sym (wholeWalk-fits judgeOf logMost openingShape (join ps) short)
 
   -- However the log is cut, and over any hold of full size, there is a run that comes to a stop.
-  pub pieces-run : holdFull ≤ length last → (cs : List Call) × Run ps freshWalker last cs × (stopped (callsOf cs) ≡ true)
+  pub pieces-run : holdFull ≤ length last → (cs : List Call) × Run ps freshWalker last cs × (stopped cs ≡ true)
   pieces-run h =
-      let (cs, r, t) = runs-exist judgeOf holdFull logMost wrong record-steady record-within right openingShape ps last refl short h in
-      (callsBy cs, run-by r, stopped-by cs ∙ t)
+      let (cs, r, t) = runs-exist judgeOf holdFull logMost wrong feedable openingShape ps last refl short h in
+      (callsBy cs, run-by r, callsSeen-stopped walkerBy cs ∙ t)
 
   -- (f) After a call c that stopped with e, every later call d of the run answers e again, takes 0, and leaves the walker as c left it and the
   -- hold as it was lent.
   pub pieces-repeat : (bs : List Call) (c : Call) (cs : List Call) (d : Call) (ds : List Call) (e : Ending)
-      → Run ps freshWalker last (bs ++ (c ∷ (cs ++ (d ∷ ds)))) → R.outcomeOf (callOf c) .answer ≡ stops e
-      → R.outcomeOf (callOf d) ≡ record { answer = stops e; count = 0; walker = R.outcomeOf (callOf c) .walker; hold = lentTo (callOf d) }
+      → Run ps freshWalker last (bs ++ (c ∷ (cs ++ (d ∷ ds)))) → outcomeOf (callOf c) .answer ≡ stops e
+      → outcomeOf (callOf d) ≡ record { answer = stops e; count = 0; walker = outcomeOf (callOf c) .walker; hold = lentTo (callOf d) }
   pieces-repeat bs c cs d ds e r a =
-      repeats judgeOf holdFull logMost wrong record-steady record-within right openingShape ps last (callsOf bs) (callOf c) (callsOf cs) (callOf d) (callsOf ds) e refl short
-      (rw (callsOf-append cs (d ∷ ds)) at (at-call bs c (cs ++ (d ∷ ds)) r)) a
+      repeats judgeOf holdFull logMost wrong feedable openingShape ps last (callsOf bs) (callOf c) (callsOf cs) (callOf d) (callsOf ds) e refl short
+      (rw (callsSeen-append walkerOf cs (d ∷ ds)) at (at-call bs c (cs ++ (d ∷ ds)) r)) a
 
   -- And so would any feed, of any piece, and any close, over any hold of full size.
   pub pieces-shut : (bs : List Call) (c : Call) (cs : List Call) (e : Ending) (w : Walker) → Run ps freshWalker last (bs ++ (c ∷ cs))
-      → R.outcomeOf (callOf c) .answer ≡ stops e → R.outcomeOf (callOf c) .walker ≡ walkerOf w → (hold : List ℕ) → holdFull ≤ length hold → (reply : Reply) (w′ : Walker)
-      → ((piece hold′ : List ℕ) → FeedSays w hold piece reply w′ hold′ → outcomeOf reply w′ hold′ ≡ still (walkerOf w) hold e)
-      × (CloseSays w hold reply w′ → outcomeOf reply w′ hold ≡ still (walkerOf w) hold e)
-  pieces-shut bs c cs e w r a v hold h reply w′ =
-      let (f, g) = stays-shut judgeOf holdFull logMost wrong record-steady record-within right openingShape ps last (callsOf bs) (callOf c) (callsOf cs) e refl short (at-call bs c cs r) a hold h in
-      (λ piece hold′ s. feed-outcome w hold piece reply w′ hold′ s ∙ (rw v at f) piece, λ s. close-outcome w hold reply w′ s ∙ (rw v at g))
+      → outcomeOf (callOf c) .answer ≡ stops e → outcomeOf (callOf c) .walker ≡ walkerOf w → (hold : List ℕ) → holdFull ≤ length hold → (o : Outcome Walker Slot)
+      → ((piece : List ℕ) → Feeds w hold piece o → seenAs walkerOf o ≡ still (walkerOf w) hold e)
+      × (Closes w hold o → seenAs walkerOf o ≡ still (walkerOf w) hold e)
+  pieces-shut bs c cs e w r a v hold h o =
+      let (f, g) = stays-shut judgeOf holdFull logMost wrong feedable openingShape ps last (callsOf bs) (callOf c) (callsOf cs) e refl short (at-call bs c cs r) a hold h in
+      (λ piece s. feed-outcome w hold piece o s ∙ (rw v at f) piece, λ s. close-outcome w hold o s ∙ (rw v at g))

@@ -14,14 +14,10 @@ use Rattle.pieces.specs.Walk.{Told, wholeWalk}
 use Rattle.pieces.specs.Slots.{into}
 use Rattle.pieces.proofs.SlotLaws.{fit-records}
 use Rattle.record.specs.declared.Slot.{Slot}
-use Rattle.record.specs.Record.{judgeOf}
+use Rattle.record.specs.Record.{judgeOf, openingShape}
 use Rattle.walk.specs.declared.Walked.{Walked}
 use Rattle.walk.specs.Fill.{toldInto, FillSays}
-use Rattle.walk.specs.Turn.{openingShape}
-
--- the records of the whole log, which are none where it is over the limit
-abbrev pub recordsOf : List ℕ → List Slot
-recordsOf log = wholeWalk judgeOf logMost openingShape log .records
+use Rattle.promises.specs.Answers.{recordsOf}
 
 -- k slots take the first k of them
 told-records : (k : ℕ) (log : List ℕ) → toldInto k log .records ≡ take k (recordsOf log)

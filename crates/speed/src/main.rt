@@ -3,8 +3,11 @@
 mod measure;
 mod sum;
 
+use harness::input;
+use harness::input::Input;
+use harness::print;
 use measure::Tally;
-use number::Span;
+use numbers::Span;
 use refusal::HOLD_FULL;
 use refusal::LOG_MOST;
 
@@ -18,73 +21,34 @@ struct Task {
     bytes: usize,
 }
 
-enum Input {
-    Task(Task),
-    End,
-    Short,
-    Long,
-}
-
-fn say(s: &[u8]) {
-    io::write_all(1, s);
-}
-
-fn number(before: &[u8], n: u64) {
-    say(before);
-    io::print_decimal(1, n);
-}
-
 fn line(task: Task, t: Tally) {
     if task.size == 0 {
-        say(b"walk");
+        print::say(b"walk");
     } else {
-        number(b"pieces of ", task.size as u64);
+        print::line(b"pieces of #", &[task.size as u64]);
     }
-    number(b" bytes ", task.bytes as u64);
-    number(b" times ", task.times as u64);
-    number(b" calls ", t.calls as u64);
-    number(b" records ", t.records as u64);
-    number(b" sum ", t.sum);
-    say(b"\n");
+    print::line(
+        b" bytes # times # calls # records # sum #\n",
+        &[
+            task.bytes as u64,
+            task.times as u64,
+            t.calls as u64,
+            t.records as u64,
+            t.sum,
+        ],
+    );
 }
 
-fn stopped(before: &[u8], index: usize) {
-    number(before, index as u64);
-    say(b"\n");
-}
-
-// Reads n bytes, and answers whether there were so many.
-fn fill(buf: &mut [u8], n: usize) -> bool {
-    if buf.len() < n {
-        return false;
-    }
-    io::read_full(0, &mut buf[..n]) == n
-}
-
-fn next_task(buf: &mut [u8]) -> Input {
-    let mut head = [0u8; 12];
-    let n = io::read_full(0, &mut head);
-    if n == 0 {
-        return Input::End;
-    }
-    if n < 12 {
-        return Input::Short;
-    }
-    let size = number::le32(&head, 0) as usize;
-    let times = number::le32(&head, 4) as usize;
-    let bytes = number::le32(&head, 8) as usize;
-    if LOG_MOST < bytes {
-        return Input::Long;
-    }
-    if fill(buf, bytes) {
-        Input::Task(Task { size, times, bytes })
-    } else {
-        Input::Short
+fn task_of(head: &[u8; 12], bytes: usize) -> Task {
+    Task {
+        size: numbers::le32(head, 0) as usize,
+        times: numbers::le32(head, 4) as usize,
+        bytes,
     }
 }
 
 fn done(buf: &[u8], hold: &mut [u8], task: Task) {
-    let log = number::part(
+    let log = numbers::part(
         buf,
         Span {
             at: 0,
@@ -95,15 +59,26 @@ fn done(buf: &[u8], hold: &mut [u8], task: Task) {
     line(task, t);
 }
 
+// Does the next task, and answers whether there may be a further one.
+fn next(buf: &mut [u8], hold: &mut [u8], index: usize) -> bool {
+    let mut head = [0u8; 12];
+    match input::next_task(&mut head, buf) {
+        Input::Log(bytes) => {
+            done(buf, hold, task_of(&head, bytes));
+            return true;
+        }
+        Input::End => return false,
+        Input::Short => print::line(b"standard input ends inside task #\n", &[index as u64]),
+        Input::Long => print::line(b"over 65536 bytes: task #\n", &[index as u64]),
+    }
+    false
+}
+
 fn tasks(buf: &mut [u8], hold: &mut [u8]) {
     let mut i: usize = 0;
     while i < TASKS_MOST {
-        let input = next_task(buf);
-        match input {
-            Input::Task(task) => done(buf, hold, task),
-            Input::End => return,
-            Input::Short => return stopped(b"standard input ends inside task ", i),
-            Input::Long => return stopped(b"over 65536 bytes: task ", i),
+        if !next(buf, hold, i) {
+            return;
         }
         i += 1;
     }

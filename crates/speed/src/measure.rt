@@ -1,6 +1,6 @@
 // Reads a log whole or by pieces, as often as is asked for, and adds up what its records say.
 use crate::sum;
-use number::Span;
+use numbers::Span;
 use record::Slot;
 use walk::Turn;
 use walker::Answer;
@@ -62,8 +62,7 @@ fn walked(log: &[u8], before: Tally) -> Tally {
                 t = given(t, slot);
                 c = turned.next;
             }
-            Turn::End(at, tail) => return called(t),
-            Turn::Refused(r) => return called(t),
+            Turn::Stop(e) => return called(t),
         }
         i += 1;
     }
@@ -77,7 +76,7 @@ fn rest_of(log: &[u8], at: usize, size: usize) -> &[u8] {
     } else {
         std::num::wrapping_sub_usize(size, at % size)
     };
-    number::part(log, Span { at, len })
+    numbers::part(log, Span { at, len })
 }
 
 // No piece comes after these.

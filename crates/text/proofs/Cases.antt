@@ -4,7 +4,7 @@ use mathlib.Core.Path.{_≡_, refl}
 use mathlib.Core.List.{[], _∷_}
 use Rattle.refusal.specs.declared.Why.the-variants.{Unaligned, BadText}
 use Rattle.text.specs.declared.Text.the-variants.{Length, Refused}
-use Rattle.number.specs.Number.{leOf}
+use Rattle.numbers.specs.Number.{leOf}
 use Rattle.text.specs.Rows.{stepOf, formed}
 use Rattle.text.specs.Text.{trimmedOf, unitsOf, utf8Of, wideOf}
 

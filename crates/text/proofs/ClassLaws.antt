@@ -10,27 +10,14 @@ use lib.ListN.{length, getD, drop, drop-of-length-le}
 use lib.Seq.{drop-cons, drop-drop}
 use lib.Arith.{lt-of-le-ne}
 use borrow.Author.Tests.{le-leb, lt-leb}
-use Rattle.number.specs.Number.{Bytes}
-use Rattle.number.proofs.ByCases.{split, Away}
-use Rattle.number.proofs.NumberLaws.{bytes-tail, bytes-drop}
+use Rattle.numbers.specs.Number.{Bytes}
+use Rattle.numbers.proofs.ByCases.{split, Away, never}
+use Rattle.numbers.proofs.NumberLaws.{bytes-tail, bytes-drop}
 use Rattle.text.specs.Rows.{Range, _··_, Row, inside, opens, stepOf, onward, formed}
 use Rattle.text.specs.Unicode.{utf8Rows}
-use Rattle.text.specs.Classes.{classes, classOf, classesFrom, classRows}
+use Rattle.text.specs.Classes.{classes, classOf, classesFrom, classRows, rowAgrees, rowsAgree}
 use Rattle.text.proofs.RowLaws.{opens-cons}
 use Rattle.text.proofs.Table.{and-left, and-right, every, every-at}
-
--- the byte b is in each range of the row exactly where the class c is in the range in its place
-unfoldable pub rowAgrees : Row → Row → ℕ → ℕ → Bool
-rowAgrees [] [] b c = true
-rowAgrees [] (q ∷ qs) b c = false
-rowAgrees (r ∷ rs) [] b c = false
-rowAgrees (r ∷ rs) (q ∷ qs) b c = Bool·beq (inside r b) (inside q c) && rowAgrees rs qs b c
-
-unfoldable pub rowsAgree : List Row → List Row → ℕ → ℕ → Bool
-rowsAgree [] [] b c = true
-rowsAgree [] (q ∷ qs) b c = false
-rowsAgree (r ∷ rs) [] b c = false
-rowsAgree (r ∷ rs) (q ∷ qs) b c = rowAgrees r q b c && rowsAgree rs qs b c
 
 -- the one computed test: Unicode's ranges at each of the 256 entries
 tested : every (rowsAgree utf8Rows classRows) 0 classes ≡ true
@@ -44,8 +31,8 @@ class-rule b h = every-at (rowsAgree utf8Rows classRows) classes tested b h
 
 beq-true : (a b : Bool) → Bool·beq a b ≡ true → a ≡ b
 beq-true true true e = refl
-beq-true true false e = let z : _≡_ {A = ℕ} 0 1 = cc in absurd (omega arith)
-beq-true false true e = let z : _≡_ {A = ℕ} 0 1 = cc in absurd (omega arith)
+beq-true true false e = never cc
+beq-true false true e = never cc
 beq-true false false e = refl
 
 -- where rows and rows of classes agree at every byte, a sequence of the one opens s exactly where one of the other opens its classes
@@ -53,8 +40,8 @@ opens-classes : (row crow : Row) → ((b : ℕ) → b < 256 → rowAgrees row cr
     → (s : List ℕ) → Bytes s → opens row s ≡ opens crow (map classOf s)
 unfolding rowAgrees
 opens-classes [] [] a s t = refl
-opens-classes [] (q ∷ qs) a s t = let f = a 0 (omega arith) in let z : _≡_ {A = ℕ} 0 1 = cc in absurd (omega arith)
-opens-classes (r ∷ rs) [] a s t = let f = a 0 (omega arith) in let z : _≡_ {A = ℕ} 0 1 = cc in absurd (omega arith)
+opens-classes [] (q ∷ qs) a s t = let f = a 0 (omega arith) in never cc
+opens-classes (r ∷ rs) [] a s t = let f = a 0 (omega arith) in never cc
 opens-classes (r ∷ rs) (q ∷ qs) a [] t = refl
 opens-classes (r ∷ rs) (q ∷ qs) a (x ∷ s) t =
     ap₂ _&&_ (beq-true (inside r x) (inside q (classOf x)) (and-left _ (rowAgrees rs qs x (classOf x)) (a x (t .below 0))))
@@ -63,16 +50,16 @@ opens-classes (r ∷ rs) (q ∷ qs) a (x ∷ s) t =
 row-length : (row crow : Row) (b c : ℕ) → rowAgrees row crow b c ≡ true → length row ≡ length crow
 unfolding rowAgrees
 row-length [] [] b c e = refl
-row-length [] (q ∷ qs) b c e = let z : _≡_ {A = ℕ} 0 1 = cc in absurd (omega arith)
-row-length (r ∷ rs) [] b c e = let z : _≡_ {A = ℕ} 0 1 = cc in absurd (omega arith)
+row-length [] (q ∷ qs) b c e = never cc
+row-length (r ∷ rs) [] b c e = never cc
 row-length (r ∷ rs) (q ∷ qs) b c e = ap suc (row-length rs qs b c (and-right (Bool·beq (inside r b) (inside q c)) _ e))
 
 step-like : (rows crows : List Row) → ((b : ℕ) → b < 256 → rowsAgree rows crows b (classOf b) ≡ true)
     → (s : List ℕ) → Bytes s → stepOf rows s ≡ stepOf crows (map classOf s)
 unfolding rowsAgree rowAgrees stepOf
 step-like [] [] a s t = refl
-step-like [] (q ∷ qs) a s t = let f = a 0 (omega arith) in let z : _≡_ {A = ℕ} 0 1 = cc in absurd (omega arith)
-step-like (r ∷ rs) [] a s t = let f = a 0 (omega arith) in let z : _≡_ {A = ℕ} 0 1 = cc in absurd (omega arith)
+step-like [] (q ∷ qs) a s t = let f = a 0 (omega arith) in never cc
+step-like (r ∷ rs) [] a s t = let f = a 0 (omega arith) in never cc
 step-like (r ∷ rs) (q ∷ qs) a s t =
     let first = opens-classes r q (λ b h. and-left _ (rowsAgree rs qs b (classOf b)) (a b h)) s t in
     let size = row-length r q 0 (classOf 0) (and-left _ (rowsAgree rs qs 0 (classOf 0)) (a 0 (omega arith))) in

@@ -7,16 +7,17 @@ use mathlib.Core.List.{List, [], _∷_}
 use native.Mathlib.Omega.{arith}
 use lib.ListN.{length, drop, length-drop, drop-of-length-le}
 use lib.Seq.{drop-drop}
+use Rattle.numbers.proofs.ByCases.{never}
 use Rattle.text.specs.Rows.{Range, Row, inside, opens, stepOf, onward, formed}
 
 opens-within : (row : Row) (s : List ℕ) → opens row s ≡ true → length row ≤ length s
 opens-within [] s e = omega arith
-opens-within (r ∷ row) [] e = let z : _≡_ {A = ℕ} 0 1 = cc in absurd (omega arith)
+opens-within (r ∷ row) [] e = never cc
 opens-within (r ∷ row) (x ∷ s) e = go (inside r x) e (opens-within row s)
   where
     go : (b : Bool) → b && opens row s ≡ true → (opens row s ≡ true → length row ≤ length s) → suc (length row) ≤ suc (length s)
     go true e h = omega (arith, h e)
-    go false e h = let z : _≡_ {A = ℕ} 0 1 = cc in absurd (omega arith)
+    go false e h = never cc
 
 pub stepOf-within : (rows : List Row) (s : List ℕ) → stepOf rows s ≤ length s
 unfolding stepOf
@@ -64,10 +65,10 @@ pub turn : (rows : List Row) (s : List ℕ) (at n : ℕ) → 0 < n → n ≡ ste
 turn rows s at zero h e = absurd (omega arith)
 turn rows s at (suc n) h e = ap (formed rows 0) (sym (drop-drop (suc n) at s)) ∙ sym (formed-next rows (drop at s) n (sym e))
 
--- where no sequence stands before the end
+-- where no sequence stands before the end, what is left is not well formed
 pub turn-stuck : (rows : List Row) (s : List ℕ) (at : ℕ) → at < length s → 0 ≡ stepOf rows (drop at s) → formed rows 0 (drop at s) ≡ false
 turn-stuck rows s at h e = formed-stuck rows (drop at s) (omega (arith, length-drop at s)) (sym e)
 
--- and at the end
+-- at the end, what is left is well formed
 pub turn-done : (rows : List Row) (s : List ℕ) (at : ℕ) → length s ≤ at → formed rows 0 (drop at s) ≡ true
 turn-done rows s at h = ap (formed rows 0) (drop-of-length-le s h) ∙ formed-nil rows

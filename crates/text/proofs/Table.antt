@@ -1,3 +1,4 @@
+use Rattle.numbers.proofs.ByCases.{never}
 -- A rule of a table at each of its entries, by one test that is computed over the whole table. Assumes nothing.
 use Prim.Native.Nat.{ℕ, zero, suc, _+_, _<_}
 use mathlib.Core.Path.{_≡_, refl}
@@ -13,7 +14,7 @@ and-left false b e = e
 
 pub and-right : (a b : Bool) → a && b ≡ true → b ≡ true
 and-right true b e = e
-and-right false b e = let z : _≡_ {A = ℕ} 0 1 = cc in absurd (omega arith)
+and-right false b e = never cc
 
 -- the test passes at each entry and its place, counted from i
 abbrev pub every : (ℕ → ℕ → Bool) → ℕ → List ℕ → Bool

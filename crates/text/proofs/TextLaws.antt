@@ -8,9 +8,9 @@ use native.Mathlib.Nat.{add-zero}
 use lib.ListN.{length, take, drop, getD, length-drop, drop-of-length-le}
 use lib.Seq.{take-suc, drop-nil, drop-drop, length-take-le, getD-drop}
 use borrow.Author.Tests.{le-leb, lt-leb}
-use Rattle.number.specs.Number.{leOf, numberAt}
-use Rattle.number.proofs.ByCases.{split}
-use Rattle.number.proofs.NumberLaws.{numberAt-past}
+use Rattle.numbers.specs.Number.{leOf, numberAt}
+use Rattle.numbers.proofs.ByCases.{split}
+use Rattle.numbers.proofs.NumberLaws.{numberAt-past}
 use Rattle.text.specs.Rows.{_··_, inside, opens, stepOf}
 use Rattle.text.specs.Unicode.{wideRows}
 use Rattle.text.specs.Text.{keep, trimmedOf, unitsOf}
@@ -21,7 +21,7 @@ unfolding trimmedOf
 trim-zero [] = refl
 trim-zero (x ∷ s) = ap (keep x) (trim-zero s)
 
--- with anything else at the end nothing is
+-- with anything but a zero at the end nothing is dropped
 pub trim-other : (s : List ℕ) (x : ℕ) → 0 < x → trimmedOf (s ++ (x ∷ [])) ≡ suc (length s)
 unfolding trimmedOf
 trim-other [] zero h = absurd (omega arith)
@@ -32,7 +32,7 @@ trim-other (y ∷ s) x h = ap (keep y) (trim-other s x h) ∙ kept y
     kept zero = refl
     kept (suc y) = refl
 
--- the same of the first n elements, as a loop from the end meets them
+-- a zero, or anything else, at the end of the first n elements, as a loop from the end meets it
 pub trim-take-zero : (s : List ℕ) (n : ℕ) → 0 < n → n ≤ length s → getD s (n - 1) 0 ≡ 0 → trimmedOf (take (n - 1) s) ≡ trimmedOf (take n s)
 trim-take-zero s zero z h e = absurd (omega arith)
 trim-take-zero s (suc n) z h e =
@@ -121,13 +121,13 @@ unfolding stepOf
 wide-second u us l h =
     rw (lt-leb u 0xD7FF (omega arith), lt-leb 0xE000 u (omega arith), lt-leb u 0xDBFF l, le-leb 0 u (omega arith), le-leb 0xD800 u (omega arith))
 
--- a first one wants a second after it
+-- a first surrogate wants a second one after it
 pub wide-first : (u : ℕ) (us : List ℕ) → 0xD800 ≤ u → u ≤ 0xDBFF → stepOf wideRows (u ∷ us) ≡ cond (opens (0xDC00 ·· 0xDFFF ∷ []) us) 2 0
 unfolding stepOf
 wide-first u us l h =
     rw (lt-leb u 0xD7FF (omega arith), lt-leb 0xE000 u (omega arith), le-leb u 0xDBFF h, le-leb 0 u (omega arith), le-leb 0xD800 u l)
 
--- which stands at the next place or, past the end, does not
+-- a second surrogate is the first unit from a place on where the number there is one; past the end there is none
 pub wide-next : (s : List ℕ) (at : ℕ) → (length s - at) % 2 ≡ 0 → opens (0xDC00 ·· 0xDFFF ∷ []) (unitsOf (drop at s)) ≡ inside (0xDC00 ·· 0xDFFF) (numberAt 2 s at)
 unfolding unitsOf
 wide-next s at e = split (at + 2) (length s) there past

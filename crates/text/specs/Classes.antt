@@ -4,11 +4,14 @@
 --   classOf b     the class of the byte b
 --   classesFrom   the classes of the bytes from a place on
 --   classRows     Unicode's rows, with the classes of each range's ends in the place of the ends
--- The rule that ties a class to Unicode's ranges is `class-rule` of proofs/ClassLaws.antt. Assumes nothing.
+--   rowsAgree rows crows b c   the rule that ties a class to Unicode's ranges: the byte b is in a range of the rows exactly where the class c
+--                 is in the range of the other rows in that place
+-- That every byte and its class agree is `class-rule` of proofs/ClassLaws.antt. Assumes nothing.
 use Prim.Native.Nat.{ℕ}
-use mathlib.Core.List.{List, _++_, map}
+use mathlib.Core.Bool.{Bool, true, false, _&&_, Bool·beq}
+use mathlib.Core.List.{List, [], _∷_, _++_, map}
 use lib.ListN.{getD, drop, replicate}
-use Rattle.text.specs.Rows.{Range, _··_, Row}
+use Rattle.text.specs.Rows.{Range, _··_, Row, inside}
 use Rattle.text.specs.Unicode.{utf8Rows}
 
 abbrev pub classes : List ℕ
@@ -40,3 +43,15 @@ classRange (low ·· high) = getD classes low 0 ·· getD classes high 0
 
 abbrev pub classRows : List Row
 classRows = map (map classRange) utf8Rows
+
+unfoldable pub rowAgrees : Row → Row → ℕ → ℕ → Bool
+rowAgrees [] [] b c = true
+rowAgrees [] (q ∷ qs) b c = false
+rowAgrees (r ∷ rs) [] b c = false
+rowAgrees (r ∷ rs) (q ∷ qs) b c = Bool·beq (inside r b) (inside q c) && rowAgrees rs qs b c
+
+unfoldable pub rowsAgree : List Row → List Row → ℕ → ℕ → Bool
+rowsAgree [] [] b c = true
+rowsAgree [] (q ∷ qs) b c = false
+rowsAgree (r ∷ rs) [] b c = false
+rowsAgree (r ∷ rs) (q ∷ qs) b c = rowAgrees r q b c && rowsAgree rs qs b c

@@ -10,7 +10,7 @@ use mathlib.Core.Bool.{cond}
 use mathlib.Core.List.{List, [], _∷_}
 use lib.Dec.{eqb}
 use lib.ListN.{length}
-use Rattle.number.specs.Number.{leOf}
+use Rattle.numbers.specs.Number.{leOf}
 use Rattle.refusal.specs.declared.Why.the-variants.{Unaligned, BadText}
 use Rattle.text.specs.declared.Text.{Text}
 use Rattle.text.specs.declared.Text.the-variants.{Length, Refused}

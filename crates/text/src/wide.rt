@@ -14,7 +14,7 @@ fn sequence(s: &[u8], at: usize) -> usize
     requires { ⌜ (at + 2 ≤ length (now s)) × (length (now s) % 2 ≡ 0) × (at % 2 ≡ 0) ⌝ }
     ensures { λ r. ⌜ r ≡ stepOf wideRows (unitsOf (drop at (now (s .entry)))) ⌝ }
 {
-    let unit = number::le16(s, at);
+    let unit = numbers::le16(s, at);
     if unit < 0xD800 {
         return 1;
     }
@@ -24,7 +24,7 @@ fn sequence(s: &[u8], at: usize) -> usize
     if 0xDBFF < unit {
         return 0;
     }
-    let next = number::le16(s, at + 2);
+    let next = numbers::le16(s, at + 2);
     if next < 0xDC00 {
         return 0;
     }
@@ -56,7 +56,7 @@ fn trimmed(s: &[u8]) -> usize
 {
     let mut n = s.len();
     while 0 < n {
-        if number::le16(s, n - 2) != 0 {
+        if numbers::le16(s, n - 2) != 0 {
             return n;
         }
         n -= 2;

@@ -3,17 +3,12 @@
 mod print;
 mod sets;
 
+use harness::input;
+use harness::input::Field;
+use harness::input::Letter;
 use sets::Set;
 use text::Text;
 ghost use Prim.Native.Nat.{_+_, _<_, _≤_};
-
-// What standard input has next.
-enum Stored {
-    // The sum of one block.
-    Sum(u64),
-    // Fewer than four bytes.
-    Short,
-}
 
 // What came of a family.
 enum Tally {
@@ -21,15 +16,6 @@ enum Tally {
     Read { differ: u64, first: u64 },
     // Standard input ended before the last block.
     Short,
-}
-
-fn next_sum() -> Stored {
-    let mut four = [0u8; 4];
-    let n = io::read_full(0, &mut four);
-    if n < 4 {
-        return Stored::Short;
-    }
-    Stored::Sum(number::le32(&four, 0) as u64)
 }
 
 // What the library says of a sequence of `len` elements, the first of those held.
@@ -96,10 +82,10 @@ fn compare(set: Set, len: usize, blocks: u64, each: u64) -> Tally
     let mut start: u64 = 0;
     let mut block: u64 = 0;
     while block < blocks {
-        let Stored::Sum(sum) = next_sum() else {
+        let Field::Is(sum) = input::next_field() else {
             return Tally::Short;
         };
-        if block_sum(set, len, start, each) != sum {
+        if block_sum(set, len, start, each) != sum as u64 {
             if differ == 0 {
                 first = block;
             }
@@ -167,11 +153,9 @@ fn all() -> bool {
 
 fn main() {
     if !all() {
-        io::write_all(1, b"standard input is short\n");
-        return;
+        return harness::print::say(b"standard input is short\n");
     }
-    let mut one = [0u8; 1];
-    if 0 < io::read_full(0, &mut one) {
-        io::write_all(1, b"left over\n");
+    if let Letter::Is(_) = input::next_letter() {
+        harness::print::say(b"left over\n");
     }
 }

@@ -7,25 +7,16 @@ use Rattle.speed.proofs.tasks.Statement.{statement}
 use Rattle.speed.proofs.tasks.Tie as tie
 
 abbrev Inv-loop : tie.InvT-loop
-Inv-loop buf₀ hold₀ i₀ t6 t7 buf hold i = (length buf ≡ length buf₀) × (length hold ≡ length hold₀)
+Inv-loop buf₀ hold₀ i₀ buf hold i = (length buf ≡ length buf₀) × (length hold ≡ length hold₀)
 
 abbrev μ-loop : tie.MeasureT-loop
-μ-loop buf₀ hold₀ i₀ t6 t7 buf hold i = 4294967295 - i
+μ-loop buf₀ hold₀ i₀ buf hold i = 4294967295 - i
 
 loop-holds : tie.Need-loop-holds Inv-loop μ-loop
 loop-holds c = search needs
 
-next-task-requires : tie.Need-next-task-requires Inv-loop μ-loop
-next-task-requires c κs = search needs
-
-enum-known-input : tie.Need-enum-known-input Inv-loop μ-loop
-enum-known-input c = search needs
-
-done-requires : tie.Need-done-requires Inv-loop μ-loop
-done-requires c κs = search needs
-
-enum-told : tie.Need-enum-told Inv-loop μ-loop
-enum-told c = search needs
+next-requires : tie.Need-next-requires Inv-loop μ-loop
+next-requires c κs = search needs
 
 same-length : tie.Need-same-length Inv-loop μ-loop
 same-length c = search needs
@@ -36,14 +27,14 @@ same-length-2 c = search needs
 returns : tie.Need-returns Inv-loop μ-loop
 returns c = search needs
 
-enum-told-2 : tie.Need-enum-told-2 Inv-loop μ-loop
-enum-told-2 c = search needs
+add-i : tie.Need-add-i Inv-loop μ-loop
+add-i c = search needs
 
-slice-aggregate-stopped : tie.Need-slice-aggregate-stopped Inv-loop μ-loop
-slice-aggregate-stopped c = search needs
+loop-less : tie.Need-loop-less Inv-loop μ-loop
+loop-less c = search needs
 
-stopped-requires : tie.Need-stopped-requires Inv-loop μ-loop
-stopped-requires c κs = search needs
+loop-again : tie.Need-loop-again Inv-loop μ-loop
+loop-again c = search needs
 
 same-length-3 : tie.Need-same-length-3 Inv-loop μ-loop
 same-length-3 c = search needs
@@ -54,42 +45,6 @@ same-length-4 c = search needs
 returns-2 : tie.Need-returns-2 Inv-loop μ-loop
 returns-2 c = search needs
 
-enum-told-3 : tie.Need-enum-told-3 Inv-loop μ-loop
-enum-told-3 c = search needs
-
-slice-aggregate-stopped-2 : tie.Need-slice-aggregate-stopped-2 Inv-loop μ-loop
-slice-aggregate-stopped-2 c = search needs
-
-stopped-requires-2 : tie.Need-stopped-requires-2 Inv-loop μ-loop
-stopped-requires-2 c κs = search needs
-
-same-length-5 : tie.Need-same-length-5 Inv-loop μ-loop
-same-length-5 c = search needs
-
-same-length-6 : tie.Need-same-length-6 Inv-loop μ-loop
-same-length-6 c = search needs
-
-returns-3 : tie.Need-returns-3 Inv-loop μ-loop
-returns-3 c = search needs
-
-add-i : tie.Need-add-i Inv-loop μ-loop
-add-i c = search needs
-
-loop-less : tie.Need-loop-less Inv-loop μ-loop
-loop-less c = search needs
-
-loop-again : tie.Need-loop-again Inv-loop μ-loop
-loop-again c = search needs
-
-same-length-7 : tie.Need-same-length-7 Inv-loop μ-loop
-same-length-7 c = search needs
-
-same-length-8 : tie.Need-same-length-8 Inv-loop μ-loop
-same-length-8 c = search needs
-
-returns-4 : tie.Need-returns-4 Inv-loop μ-loop
-returns-4 c = search needs
-
 pub tasks-spec : {M : Type 1} → statement M
 tasks-spec =
     tie.close
@@ -97,28 +52,13 @@ tasks-spec =
     Inv-loop
     μ-loop
     loop-holds
-    next-task-requires
-    enum-known-input
-    done-requires
-    enum-told
+    next-requires
     same-length
     same-length-2
     returns
-    enum-told-2
-    slice-aggregate-stopped
-    stopped-requires
-    same-length-3
-    same-length-4
-    returns-2
-    enum-told-3
-    slice-aggregate-stopped-2
-    stopped-requires-2
-    same-length-5
-    same-length-6
-    returns-3
     add-i
     loop-less
     loop-again
-    same-length-7
-    same-length-8
-    returns-4)
+    same-length-3
+    same-length-4
+    returns-2)

@@ -16,8 +16,8 @@ abbrev μ-loop : tie.MeasureT-loop
 loop-holds : tie.Need-loop-holds Inv-loop μ-loop
 loop-holds c = search needs
 
-next-sum-requires : tie.Need-next-sum-requires Inv-loop μ-loop
-next-sum-requires c κs = search needs
+next-field-requires : tie.Need-next-field-requires Inv-loop μ-loop
+next-field-requires c κs = search needs
 
 enum-known-sum : tie.Need-enum-known-sum Inv-loop μ-loop
 enum-known-sum c = search needs
@@ -30,6 +30,9 @@ returns c = search needs
 
 block-sum-requires : tie.Need-block-sum-requires Inv-loop μ-loop
 block-sum-requires c κs = search needs
+
+cast-if1 : tie.Need-cast-if1 Inv-loop μ-loop
+cast-if1 c = search needs
 
 add-differ : tie.Need-add-differ Inv-loop μ-loop
 add-differ c = search needs
@@ -56,11 +59,12 @@ compare-spec =
     Inv-loop
     μ-loop
     loop-holds
-    next-sum-requires
+    next-field-requires
     enum-known-sum
     enum-told
     returns
     block-sum-requires
+    cast-if1
     add-differ
     add-start
     add-block

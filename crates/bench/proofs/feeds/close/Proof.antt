@@ -8,11 +8,11 @@ use Rattle.bench.proofs.feeds.close.Tie as tie
 least-requires : tie.Need-least-requires
 least-requires c κs = search needs
 
-slice-aggregate-closed-by : tie.Need-slice-aggregate-closed-by
-slice-aggregate-closed-by c = sym (length-take-le _ _ (search needs))
+slice-aggregate-close : tie.Need-slice-aggregate-close
+slice-aggregate-close c = sym (length-take-le _ _ (search needs))
 
-closed-by-requires : tie.Need-closed-by-requires
-closed-by-requires c κs = search needs
+close-requires : tie.Need-close-requires
+close-requires c κs = search needs
 
 slice-aggregate-lines : tie.Need-slice-aggregate-lines
 slice-aggregate-lines c = sym (length-take-le _ _ (search needs))
@@ -34,8 +34,8 @@ close-spec =
     tie.close
     (tie.spec
     least-requires
-    slice-aggregate-closed-by
-    closed-by-requires
+    slice-aggregate-close
+    close-requires
     slice-aggregate-lines
     lines-requires
     with-walker-requires

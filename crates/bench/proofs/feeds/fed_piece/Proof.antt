@@ -8,14 +8,14 @@ use Rattle.bench.proofs.feeds.fed_piece.Tie as tie
 least-requires : tie.Need-least-requires
 least-requires c κs = search needs
 
-slice-relend-prefix-fed-by : tie.Need-slice-relend-prefix-fed-by
-slice-relend-prefix-fed-by c = search needs
+slice-relend-prefix-feed : tie.Need-slice-relend-prefix-feed
+slice-relend-prefix-feed c = search needs
 
-slice-aggregate-fed-by : tie.Need-slice-aggregate-fed-by
-slice-aggregate-fed-by c = sym (length-take-le _ _ (search needs))
+slice-aggregate-feed : tie.Need-slice-aggregate-feed
+slice-aggregate-feed c = sym (length-take-le _ _ (search needs))
 
-fed-by-requires : tie.Need-fed-by-requires
-fed-by-requires c κs = search needs
+feed-requires : tie.Need-feed-requires
+feed-requires c κs = search needs
 
 slice-reshare-prefix-lines : tie.Need-slice-reshare-prefix-lines
 slice-reshare-prefix-lines c = search needs
@@ -40,9 +40,9 @@ fed-piece-spec =
     tie.close
     (tie.spec
     least-requires
-    slice-relend-prefix-fed-by
-    slice-aggregate-fed-by
-    fed-by-requires
+    slice-relend-prefix-feed
+    slice-aggregate-feed
+    feed-requires
     slice-reshare-prefix-lines
     slice-aggregate-lines
     lines-requires

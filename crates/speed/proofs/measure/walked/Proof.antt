@@ -34,15 +34,6 @@ called-requires c κs = search needs
 returns : tie.Need-returns Inv-loop μ-loop
 returns c = search needs
 
-enum-known-turn-3 : tie.Need-enum-known-turn-3 Inv-loop μ-loop
-enum-known-turn-3 c = search needs
-
-called-requires-2 : tie.Need-called-requires-2 Inv-loop μ-loop
-called-requires-2 c κs = search needs
-
-returns-2 : tie.Need-returns-2 Inv-loop μ-loop
-returns-2 c = search needs
-
 add-i : tie.Need-add-i Inv-loop μ-loop
 add-i c = search needs
 
@@ -52,8 +43,8 @@ loop-less c = search needs
 loop-again : tie.Need-loop-again Inv-loop μ-loop
 loop-again c = search needs
 
-returns-3 : tie.Need-returns-3 Inv-loop μ-loop
-returns-3 c = search needs
+returns-2 : tie.Need-returns-2 Inv-loop μ-loop
+returns-2 c = search needs
 
 pub walked-spec : {M : Type 1} → statement M
 walked-spec =
@@ -69,10 +60,7 @@ walked-spec =
     enum-known-turn-2
     called-requires
     returns
-    enum-known-turn-3
-    called-requires-2
-    returns-2
     add-i
     loop-less
     loop-again
-    returns-3)
+    returns-2)

@@ -1,7 +1,7 @@
 -- `text::utf8::sequence`: at each class of a lead the rows of classes leave one row, and elsewhere none. Assumes nothing.
 use mathlib.Core.Path.{sym, _∙_}
 use borrow.Author.Needs.{needs}
-use Rattle.number.proofs.NumberLaws.{bytes}
+use Rattle.numbers.proofs.NumberLaws.{bytes}
 use Rattle.text.proofs.ClassLaws.{step-lead, step-none}
 use Prim.Native.Nat.{_+_}
 use Rattle.text.specs.Rows.{stepOf}

@@ -10,7 +10,7 @@ use Rattle.text.proofs.TextLaws.{units-at, wide-below, wide-above, wide
 use Rattle.text.specs.Rows.{stepOf}
 use Rattle.text.specs.Unicode.{wideRows}
 use Rattle.text.specs.Text.{unitsOf}
-use Rattle.number.specs.Number.{numberAt}
+use Rattle.numbers.specs.Number.{numberAt}
 use Rattle.text.proofs.wide.sequence.Statement.{statement}
 use Rattle.text.proofs.wide.sequence.Tie as tie
 

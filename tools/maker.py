@@ -1,0 +1,225 @@
+"""The maker of logs: records, their data, damage, the commands of the bench, and the logs of real firmware.
+
+Every function writes what its arguments say, sound or not: a length, a count or a size that is left out is the true one. What no answer depends on
+(`head`, `fill`, `digest`, `guid`) can be given, where the bytes should be others. Two runs make the same bytes.
+"""
+import functools
+import os
+import struct
+
+from model import KNOWN_IDS, NO_ACTION
+
+SHA1, SHA256, SHA384, SHA512 = KNOWN_IDS
+# An event type of each kind; ACTION has nothing inside.
+TEXT, SEPARATOR, ACTION, WIDE_TEXT, VARIABLE, IMAGE, GPT, BLOB = 1, 4, 5, 8, 0x80000001, 0x80000003, 0x80000006, 0x80000008
+
+
+def u8(n):
+    return struct.pack("<B", n)
+
+
+def u16(n):
+    return struct.pack("<H", n)
+
+
+def u32(n):
+    return struct.pack("<I", n)
+
+
+def u64(n):
+    return struct.pack("<Q", n)
+
+
+def given(value, default):
+    return default if value is None else value
+
+
+@functools.cache
+def sample(n):
+    """So many bytes, no two neighbours alike."""
+    return bytes((17 * i + 3) % 251 for i in range(n))
+
+
+def wide(text):
+    """Wide text; bytes stay as they are."""
+    return text if isinstance(text, bytes) else text.encode("utf-16-le", "surrogatepass")
+
+
+def units(*numbers):
+    return b"".join(u16(n) for n in numbers)
+
+
+# ---------------------------------------------------------------- data
+
+SIGNATURE = b"Spec ID Event03\0"
+
+
+def spec_id(pairs=(), vendor=b"", uintn=2, signature=SIGNATURE, head=b"\0\0\0\0\0\2\0", count=None, vendor_length=None):
+    """Signature 16, class 4, minor, major and errata 1 (`head`), uintn 1, how many pairs 4, the pairs, vendor length 1, vendor."""
+    listed = b"".join(u16(id) + u16(size) for id, size in pairs)
+    return signature + head + u8(uintn) + u32(given(count, len(pairs))) + listed + u8(given(vendor_length, len(vendor))) + vendor
+
+
+def variable(name=b"", data=b"", units=None, length=None, guid=bytes(range(16))):
+    """GUID 16, name units 8, data length 8, name, data."""
+    name = wide(name)
+    return guid + u64(given(units, len(name) // 2)) + u64(given(length, len(data))) + name + data
+
+
+def image(path=b"", extra=b"", length=None, head=u64(0x7E5DD018) + u64(1 << 40 | 1234) + u64((1 << 64) - 1)):
+    """Location, length and link address 8 each (`head`), path length 8, path, extra."""
+    return head + u64(given(length, len(path))) + path + extra
+
+
+def node(kind, subtype, body=b"", length=None):
+    """Type 1, subtype 1, length 2, body."""
+    return u8(kind) + u8(subtype) + u16(given(length, len(body) + 4)) + body
+
+
+END = node(0x7F, 0xFF)
+
+
+def drive(form=2, signature_type=2, head=sample(36)):
+    """Number 4, start 8, size 8, signature 16 (`head`), format 1, signature type 1."""
+    return node(4, 1, head + u8(form) + u8(signature_type))
+
+
+def header(size=92, entry_size=128, signature=b"EFI PART", revision=0x10000, fill=sample(92)):
+    """A GPT header: the fields that are looked at, in a header whose other fields are those of `fill`."""
+    return signature + u32(revision) + u32(size) + fill[16:84] + u32(entry_size) + fill[88:]
+
+
+def entry(name, size=128, salt=0, head=None, rest=None):
+    """Type and own GUID 16 each, first, last and attributes 8 each (`head`, else by `salt`), name 72, the rest. Cut at its size."""
+    head = given(head, bytes((salt + 7 * i + 1) % 256 for i in range(56)))
+    return (head + wide(name)[:72].ljust(72, b"\0") + given(rest, sample(max(size - 128, 0))))[:size]
+
+
+def gpt(length=None, size=92, entry_size=128, entries=(), gap=8, **fields):
+    """A header, a gap and entries; with a length, cut there or filled up with zeros."""
+    b = header(size, entry_size, **fields) + sample(gap) + b"".join(entries)
+    return b if length is None else b[:length].ljust(length, b"\0")
+
+
+# ---------------------------------------------------------------- records
+
+def sha1(event, data, register=0, digest=bytes(20), size=None):
+    """Register 4, type 4, digest 20, size 4, data."""
+    return u32(register) + u32(event) + digest + u32(given(size, len(data))) + data
+
+
+def agile(event, digests, data, register=0, count=None, size=None):
+    """Register 4, type 4, how many digests 4, each an id 2 and its bytes, size 4, data."""
+    listed = b"".join(u16(id) + digest for id, digest in digests)
+    return u32(register) + u32(event) + u32(given(count, len(digests))) + listed + u32(given(size, len(data))) + data
+
+
+def marker(*pairs, **fields):
+    return sha1(NO_ACTION, spec_id(pairs, **fields))
+
+
+SMALLEST, WITH_PAIR, WITH_TWO = marker(), marker((SHA256, 32)), marker((SHA256, 32), (SHA1, 20))
+# Where a record may stand: what is before it, and the digests that it has; None in a SHA-1 log.
+FRAMES = {
+    "first": (b"", None),
+    "later": (sha1(0, b""), None),
+    "second": (sha1(ACTION, b"x"), None),
+    "agile": (SMALLEST, []),
+    "one digest": (WITH_PAIR, [(SHA256, sample(32))]),
+    "two digests": (WITH_TWO, [(SHA1, sample(20)), (SHA256, sample(32))]),
+}
+
+
+def framed(frame, event, data):
+    """A log whose last record has these data."""
+    before, digests = FRAMES[frame]
+    return before + (sha1(event, data) if digests is None else agile(event, digests, data))
+
+
+# ---------------------------------------------------------------- damage
+
+def cut(r, data):
+    return data[:r.randrange(len(data) + 1)]
+
+
+def truncations(data):
+    return [data[:n] for n in range(len(data))]
+
+
+def every_byte(data, changes=(lambda b: b ^ 1, lambda b: b ^ 0x80, lambda b: 0, lambda b: 255)):
+    """A copy for each byte and each change of it."""
+    for i in range(len(data)):
+        for change in changes:
+            yield data[:i] + bytes([change(data[i])]) + data[i + 1:]
+
+
+def front_changed(r, log):
+    """One or two bytes of the first 4,000 changed."""
+    copy = bytearray(log)
+    for _ in range(r.choice([1, 1, 2])):
+        i = r.randrange(min(len(copy), 4000))
+        copy[i] = r.choice([0, 1, 0xFF, copy[i] ^ (1 << r.randrange(8)), r.randrange(256)])
+    return bytes(copy)
+
+
+def cut_or_changed(r, log, copies):
+    """Of twelve copies five are cut, and the others changed near their front."""
+    return [cut(r, log) if k % 12 < 5 else front_changed(r, log) for k in range(copies)]
+
+
+def edited(r, data):
+    """One to three edits: a byte set, a bit turned, bytes taken out, put in or doubled, a beginning kept."""
+    b = bytearray(data)
+    for _ in range(r.randrange(1, 4)):
+        at = r.randrange(len(b) + 1)
+        kind = r.randrange(7)
+        if kind < 3 and at < len(b):
+            b[at] = r.choice((0, 1, 2, 4, 0x7F, 0xD8, 0xDC, 0xFF, r.randrange(256)))
+        elif kind == 3 and at < len(b):
+            b[at] ^= 1 << r.randrange(8)
+        elif kind == 4:
+            del b[at:at + r.randrange(1, 5)]
+        elif kind == 5:
+            b[at:at] = b[at:at + r.randrange(1, 5)] or bytes(r.randrange(1, 4))
+        elif r.random() < .4:
+            del b[at:]
+    return bytes(b)
+
+
+# ---------------------------------------------------------------- commands of the bench
+
+SLOTS = 64  # the most that a walk is lent
+COUNTED_MOST = 131072  # the most bytes that a command has
+
+
+def command(letter):
+    """A command by its letter: numbers of 32 bits, and bytes with their length before them."""
+    return lambda *numbers_and_bytes: letter + b"".join(u32(n) for n in numbers_and_bytes[:-1]) + u32(len(numbers_and_bytes[-1])) + numbers_and_bytes[-1]
+
+
+N, C, c = b"N", b"C", b"c"
+L, H, F, f, P, G, U, X = (command(letter) for letter in (b"L", b"H", b"F", b"f", b"P", b"G", b"U", b"X"))
+
+
+def W(held=0, total=0, kind=0, pairs=(), count=None, kept=0, number=0, a=0, b=0):
+    """A made-up walker."""
+    table = b"".join(u16(id) + u16(size) for id, size in [*pairs, *[(0, 0)] * (16 - len(pairs))])
+    return b"W" + u64(held) + u64(total) + u8(kind) + u64(given(count, len(pairs))) + table + u8(kept) + u8(number) + u64(a) + u64(b)
+
+
+# ---------------------------------------------------------------- logs of real firmware
+
+@functools.cache
+def real_logs(folder):
+    """Those of FOLDER/logs by their file names, in the order of the names."""
+    logs = {}
+    for name in sorted(os.listdir(os.path.join(folder, "logs"))):
+        if name.endswith(".bin"):
+            with open(os.path.join(folder, "logs", name), "rb") as file:
+                logs[name] = file.read()
+    return logs
+
+
+def packed(logs):
+    """Logs one after the other, each behind its length: what the oracle's batch and cut_logs read."""
+    return b"".join(u32(len(log)) + log for log in logs)
