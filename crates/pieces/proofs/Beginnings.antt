@@ -1,9 +1,9 @@
 -- Laws of the walk of beginnings of a log (specs/Prompt.antt): of bytes that wait it gives no record and an early ending. Assumes nothing.
-use Prim.Native.Nat.{ℕ, zero, suc, _≤_}
+use Prim.Native.Nat.{ℕ, zero, suc}
 use mathlib.Core.Path.{_≡_, refl, ap}
 use mathlib.Core.Bool.{false}
 use mathlib.Core.List.{List, []}
-use lib.ListN.{length, take}
+use lib.ListN.{length}
 use Rattle.numbers.proofs.ByCases.{both}
 use Rattle.refusal.specs.Endings.{endingIn}
 use Rattle.pieces.specs.Verdict.{Verdict, more, sound, refused, Judge, decided, Steady}

@@ -3,12 +3,11 @@
 --   feed-own    `OfFeed` (specs/Answers.antt): a feed wants more, gives a record, or refuses with 3 to 11, 13 or 14; it never gives the end
 --   close-own   `OfClose`: a close gives a record or the end, or refuses with 2 to 11 or 14; it never wants more
 -- Assumes nothing.
-use Prim.Native.Nat.{ℕ, zero, suc, _+_, _≤_}
+use Prim.Native.Nat.{ℕ, zero, suc, _+_}
 use mathlib.Core.Path.{_≡_, refl, ap}
 use mathlib.Core.Logic.{inl, inr}
 use mathlib.Core.List.{List}
 use mathlib.Core.Option.{none}
-use native.Mathlib.Omega.{arith}
 use lib.ListN.{length}
 use Rattle.numbers.proofs.ByCases.{split, test}
 use Rattle.refusal.specs.declared.Refusal.{Refusal}

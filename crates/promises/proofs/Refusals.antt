@@ -11,8 +11,7 @@ use mathlib.Core.Path.{_≡_, sym, ap, _∙_, subst}
 use mathlib.Core.Bool.{Bool, true, false}
 use mathlib.Core.List.{List, [], _++_}
 use mathlib.Core.Logic.{_↔_}
-use native.Mathlib.Omega.{arith}
-use lib.ListN.{length, take}
+use lib.ListN.{length}
 use Rattle.numbers.proofs.ByCases.{never}
 use Rattle.numbers.specs.Number.{Bytes}
 use Rattle.refusal.specs.declared.Why.{Why}
