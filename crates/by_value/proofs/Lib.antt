@@ -1,2 +1,3 @@
--- The laws of the table.
+-- The laws of the table, and a worked case.
 pub mod TableLaws
+pub mod Cases

@@ -1,8 +1,8 @@
 // Whether two answers are the same.
 use record::Slot;
+use record::Turn;
 use refusal::Ending;
 use refusal::Refusal;
-use walk::Turn;
 use walker::Answer;
 
 fn slot(a: Slot, b: Slot) -> bool {

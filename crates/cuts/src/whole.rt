@@ -2,11 +2,11 @@
 use crate::same;
 use numbers::Span;
 use record::Slot;
+use record::Turn;
 use refusal::Ending;
 use refusal::Refusal;
 use refusal::Why;
 use walk::Cursor;
-use walk::Turn;
 ghost use mathlib.Core.Path.{_≡_};
 ghost use Rattle.walk.specs.Turn.{turnOf};
 

@@ -1,6 +1,6 @@
 -- Laws and theorems of cutting a log into records and feeding it by pieces, over any judge that keeps the laws of specs/Verdict.antt.
 -- Read the two theorems first; the rest is there for them and for the code that is proved against these definitions.
---   Agreement      every run that stopped told what the walk of the whole log tells; and there are such runs
+--   Agreement      every run that stopped, or has a close, told what the walk of the whole log tells; feeding pieces in order is a run
 --   Promptness     every call of every run, in terms of the walk of beginnings of the log: what it gives, that nothing shorter gives it,
 --                  what it takes and writes, and that it repeats itself after a stop
 -- For a format: give its plan, and take the laws from `read-steady` and `read-within`. Toy is a whole instance, with worked cases.
@@ -20,6 +20,7 @@
 pub mod Agreement
 pub mod Promptness
 pub mod Toy
+pub mod Cases
 pub mod PlanLaws
 pub mod FieldLaws
 pub mod VerdictLaws

@@ -12,8 +12,8 @@ use mathlib.Core.Option.{none, some}
 use mathlib.Core.List.{List, [], _∷_, _++_, append-assoc, append-nil}
 use native.Mathlib.Omega.{arith}
 use native.Mathlib.Nat.{add-zero}
-use lib.ListN.{length, take, drop, length-append, length-drop, drop-of-length-le}
-use lib.Seq.{paste, take-paste, take-all, take-take, take-append-le, drop-append-le, drop-at, drop-drop}
+use lib.ListN.{length, take, drop, length-append, length-drop}
+use lib.Seq.{paste, take-paste, take-all, take-take, take-append-le, drop-at}
 use Rattle.numbers.specs.Range.{partOf}
 use Rattle.numbers.proofs.ByCases.{split, both}
 use Rattle.numbers.proofs.RangeLaws.{length-part, part-add}
@@ -24,7 +24,7 @@ use Rattle.pieces.specs.Verdict.{Verdict, more, sound, refused, Judge, d
 use Rattle.pieces.specs.Walk.{add, walk}
 use Rattle.pieces.specs.Taken.{taken, Least}
 use Rattle.pieces.specs.Feed.{Walker, gives, stops, wants, Outcome, start, fed, closed, feedOf, closeOf, Feedable}
-use Rattle.pieces.specs.Run.{join, after, Lent}
+use Rattle.pieces.specs.Run.{Lent}
 use Rattle.pieces.specs.Prompt.{walkTo, Early, Before}
 use Rattle.pieces.proofs.VerdictLaws.{sound-all, waits-within}
 use Rattle.pieces.proofs.WalkLaws.{walk-more, walk-sound, walk-refused}
@@ -34,14 +34,13 @@ use Rattle.pieces.proofs.FeedLaws.{InRange, feed-passed, close-passed}
 use Rattle.pieces.proofs.RunLaws.{adds}
 
 module _ {Shape Rec : Type 0} (judge : Judge Shape Rec) (full most : ℕ) (wrong : ℕ → Shape → Bool) (sh : Shape) (log : List ℕ) where
-  -- No call has stopped: the record in hand starts at `base`, the records rs were given, and the pieces ps are to come.
-  pub record Open (base : ℕ) (rs : List Rec) (ps : List (List ℕ)) (w : Walker Shape) (last : List ℕ) : Type 0 where
+  -- No call has stopped: the record in hand starts at `base`, and the records rs were given.
+  pub record Open (base : ℕ) (rs : List Rec) (w : Walker Shape) (last : List ℕ) : Type 0 where
     pub awake : w .kept ≡ none
     -- the shape is right where the record in hand starts, and so at the total
     pub fine : wrong base (w .shape) ≡ false
     pub place : w .total ≡ base + w .held
     pub reach : w .total ≤ length log
-    pub todo : drop (w .total) log ≡ join ps
     pub bytes : take (w .held) last ≡ partOf log base (w .held)
     pub waits : decided (judge (w .shape) base (partOf log base (w .held))) ≡ false
     pub rest : (k : ℕ) → walkTo judge sh log (base + k) ≡ adds rs (walk judge (w .shape) base (partOf log base k))
@@ -60,17 +59,17 @@ module _ {Shape Rec : Type 0} (judge : Judge Shape Rec) (full most : ℕ) (wrong
     -- the walk of every beginning that has the bytes taken gives the same
     pub final : (m : ℕ) → w .total + o .count ≤ m → walkTo judge sh log m ≡ record { records = rs; ending = ending }
 
-  -- How it answered, fed p, with the pieces ps left to come.
-  pub data Next (rs : List Rec) (w : Walker Shape) (p : List ℕ) (ps : List (List ℕ)) (o : Outcome (Walker Shape) Rec) : Type 0 where
-    next-gives : (r : Rec) → o .answer ≡ gives r → Open (o .walker .total) (rs ++ (r ∷ [])) ps (o .walker) (o .hold) → o .walker .held ≡ 0
-        → 0 < o .count → take (w .held + o .count) (o .hold) ≡ partOf log (w .total - w .held) (w .held + o .count) → Next rs w p ps o
-    next-wants : (base : ℕ) → o .answer ≡ wants → Open base rs ps (o .walker) (o .hold) → o .walker .held ≡ w .held + o .count
-        → o .count ≡ length p → Next rs w p ps o
-    next-stops : Stopping rs w o → Next rs w p ps o
+  -- How it answered, fed p.
+  pub data Next (rs : List Rec) (w : Walker Shape) (p : List ℕ) (o : Outcome (Walker Shape) Rec) : Type 0 where
+    next-gives : (r : Rec) → o .answer ≡ gives r → Open (o .walker .total) (rs ++ (r ∷ [])) (o .walker) (o .hold) → o .walker .held ≡ 0
+        → 0 < o .count → take (w .held + o .count) (o .hold) ≡ partOf log (w .total - w .held) (w .held + o .count) → Next rs w p o
+    next-wants : (base : ℕ) → o .answer ≡ wants → Open base rs (o .walker) (o .hold) → o .walker .held ≡ w .held + o .count
+        → o .count ≡ length p → Next rs w p o
+    next-stops : Stopping rs w o → Next rs w p o
 
   -- What it did, whatever it answered.
-  pub record Step (rs : List Rec) (w : Walker Shape) (p : List ℕ) (ps : List (List ℕ)) (o : Outcome (Walker Shape) Rec) : Type 0 where
-    pub next : Next rs w p ps o
+  pub record Step (rs : List Rec) (w : Walker Shape) (p : List ℕ) (o : Outcome (Walker Shape) Rec) : Type 0 where
+    pub next : Next rs w p o
     pub sooner : (m : ℕ) → m < w .total + o .count → Before rs (walkTo judge sh log m)
     pub within : o .count ≤ length p
     pub bytes : take (o .count) p ≡ partOf log (w .total) (o .count)
@@ -92,7 +91,7 @@ module _ {Shape Rec : Type 0} (judge : Judge Shape Rec) (full most : ℕ) (wrong
 
     -- ---- an open state
 
-    module _ (base : ℕ) (rs : List Rec) (ps : List (List ℕ)) (w : Walker Shape) (last : List ℕ) (o : Open base rs ps w last) where
+    module _ (base : ℕ) (rs : List Rec) (w : Walker Shape) (last : List ℕ) (o : Open base rs w last) where
       -- the held bytes leave room in the hold
       held-within : w .held < full
       held-within =
@@ -112,10 +111,10 @@ module _ {Shape Rec : Type 0} (judge : Judge Shape Rec) (full most : ℕ) (wrong
       pub open-told : (walkTo judge sh log (w .total) .records ≡ rs) × Early (walkTo judge sh log (w .total) .ending)
       open-told = rw (o .place) (rest-waits (w .shape) base (w .held) rs (o .rest (w .held)) (o .waits))
 
-    -- ---- a feed of p to an open walker, with ps to come, over a hold that agrees with the last on the held bytes
+    -- ---- a feed to an open walker of p, with which the bytes not taken yet begin, over a hold that agrees with the last on the held bytes
 
-    module _ (base : ℕ) (rs : List Rec) (p : List ℕ) (ps : List (List ℕ)) (w : Walker Shape) (last hold : List ℕ)
-        (o : Open base rs (p ∷ ps) w last) (l : Lent full (w .held) last hold) where
+    module _ (base : ℕ) (rs : List Rec) (p rest : List ℕ) (w : Walker Shape) (last hold : List ℕ) (todo : drop (w .total) log ≡ p ++ rest)
+        (o : Open base rs w last) (l : Lent full (w .held) last hold) where
       -- the held bytes, and how many are taken
       abbrev x : List ℕ
       x = partOf log base (w .held)
@@ -130,11 +129,11 @@ module _ {Shape Rec : Type 0} (judge : Judge Shape Rec) (full most : ℕ) (wrong
       length-x = length-part log base (w .held) (omega (arith, o .place, o .reach))
 
       length-p : w .total + length p ≤ length log
-      length-p = omega (arith, ap length (o .todo), length-drop (w .total) log, length-append p (join ps), o .reach)
+      length-p = omega (arith, ap length todo, length-drop (w .total) log, length-append p rest, o .reach)
 
       -- the bytes taken are the log's next ones
       chunk : (m : ℕ) → m ≤ length p → take m p ≡ partOf log (w .total) m
-      chunk m h = sym (ap (take m) (o .todo) ∙ take-append-le m p (join ps) h)
+      chunk m h = sym (ap (take m) todo ∙ take-append-le m p rest h)
 
       grow : (m : ℕ) → m ≤ length p → x ++ take m p ≡ partOf log base (w .held + m)
       grow m h = ap (λ l. x ++ l) (chunk m h ∙ ap (λ t. partOf log t m) (o .place)) ∙ sym (part-add log base (w .held) m)
@@ -159,16 +158,13 @@ module _ {Shape Rec : Type 0} (judge : Judge Shape Rec) (full most : ℕ) (wrong
           ≡ fed w (paste hold (w .held) p n) n (judge (w .shape) base (partOf log base (w .held + n)))
       feed-open =
           let s : start w ≡ base = omega (arith, o .place) in
-          feed-passed judge full most wrong w hold (open-range base rs (p ∷ ps) w last o hold (l .size)) p (o .awake) (omega (arith, length-p))
+          feed-passed judge full most wrong w hold (open-range base rs w last o hold (l .size)) p (o .awake) (omega (arith, length-p))
           ∙ rw (s, l .same, o .bytes, grow n (least .within))
 
       hold-bytes : take (w .held + n) (paste hold (w .held) p n) ≡ partOf log base (w .held + n)
       hold-bytes =
-          take-paste hold (w .held) p n (omega (arith, l .size, held-within base rs (p ∷ ps) w last o)) (least .within)
+          take-paste hold (w .held) p n (omega (arith, l .size, held-within base rs w last o)) (least .within)
           ∙ ap (λ b. b ++ take n p) (l .same ∙ o .bytes) ∙ grow n (least .within)
-
-      todo-rest : drop (w .total + n) log ≡ drop n p ++ join ps
-      todo-rest = sym (drop-drop n (w .total) log) ∙ ap (drop n) (o .todo) ∙ drop-append-le n p (join ps) (least .within)
 
       -- what is decided stays so, whatever follows
       stays : (v : Verdict Shape Rec) → judge (w .shape) base (partOf log base (w .held + n)) ≡ v → decided v ≡ true
@@ -182,7 +178,7 @@ module _ {Shape Rec : Type 0} (judge : Judge Shape Rec) (full most : ℕ) (wrong
           ∙ j
 
       feed-wants : (s e : ℕ) → judge (w .shape) base (partOf log base (w .held + n)) ≡ more s e
-          → Next rs w p ps (fed w (paste hold (w .held) p n) n (more s e))
+          → Next rs w p (fed w (paste hold (w .held) p n) n (more s e))
       feed-wants s e j =
           let all : n ≡ length p = waits-all (judge (w .shape) base) x p n least (rw (grow n (least .within)) (ap decided j)) in
           next-wants base refl
@@ -191,7 +187,6 @@ module _ {Shape Rec : Type 0} (judge : Judge Shape Rec) (full most : ℕ) (wrong
             fine = o .fine;
             place = omega (arith, o .place);
             reach = omega (arith, length-p);
-            todo = todo-rest ∙ rw (drop-of-length-le p {i = n} (omega arith));
             bytes = hold-bytes;
             waits = ap decided j;
             rest = o .rest;
@@ -235,7 +230,7 @@ module _ {Shape Rec : Type 0} (judge : Judge Shape Rec) (full most : ℕ) (wrong
           (sym (append-assoc rs (r ∷ []) (walk judge next (w .total + n) (partOf log (w .total + n) k) .records)))
 
       feed-gives : (r : Rec) (m : ℕ) (next : Shape) → judge (w .shape) base (partOf log base (w .held + n)) ≡ sound r m next
-          → Next rs w p (drop n p ∷ ps) (fed w (paste hold (w .held) p n) n (sound r m next))
+          → Next rs w p (fed w (paste hold (w .held) p n) n (sound r m next))
       feed-gives r m next j =
           let rest : (k : ℕ) → walkTo judge sh log (w .total + n + k) ≡ adds (rs ++ (r ∷ [])) (walk judge next (w .total + n) (partOf log (w .total + n) k)) =
           gives-rest r next (rw (gives-size r m next j) at j) in
@@ -247,7 +242,6 @@ module _ {Shape Rec : Type 0} (judge : Judge Shape Rec) (full most : ℕ) (wrong
                 rw e at (able .right (w .shape) base (partOf log base (w .held + n)) r m next j (o .fine));
             place = omega arith;
             reach = omega (arith, length-p, least .within);
-            todo = todo-rest;
             bytes = refl;
             waits = able .steady next (w .total + n) .opens;
             rest = rest;
@@ -261,7 +255,7 @@ module _ {Shape Rec : Type 0} (judge : Judge Shape Rec) (full most : ℕ) (wrong
           (let b : w .total - w .held ≡ base = omega (arith, o .place) in rw b hold-bytes)
 
       feed-stops : (r : Refusal) → judge (w .shape) base (partOf log base (w .held + n)) ≡ refused r
-          → Next rs w p ps (fed w (paste hold (w .held) p n) n (refused r))
+          → Next rs w p (fed w (paste hold (w .held) p n) n (refused r))
       feed-stops r j = next-stops (record {
         ending = Ending.Refused r;
         says = refl;
@@ -285,15 +279,14 @@ module _ {Shape Rec : Type 0} (judge : Judge Shape Rec) (full most : ℕ) (wrong
       })
 
       -- A feed to an open walker is such a step.
-      pub feed-step : Step rs w p (after (feedOf judge full most wrong w hold p .answer) (feedOf judge full most wrong w hold p .count) p ps)
-          (feedOf judge full most wrong w hold p)
+      pub feed-step : Step rs w p (feedOf judge full most wrong w hold p)
       feed-step = rw feed-open (go (judge (w .shape) base (partOf log base (w .held + n))) refl)
         where
           outcome : Verdict Shape Rec → Outcome (Walker Shape) Rec
           outcome v = fed w (paste hold (w .held) p n) n v
 
-          step : (qs : List (List ℕ)) (y : Outcome (Walker Shape) Rec) → y .count ≡ n → y .walker .total ≡ w .total + n → Next rs w p qs y → Step rs w p qs y
-          step qs y c t x = record {
+          step : (y : Outcome (Walker Shape) Rec) → y .count ≡ n → y .walker .total ≡ w .total + n → Next rs w p y → Step rs w p y
+          step y c t x = record {
             next = x;
             sooner = λ m h. sooner m (omega arith);
             within = omega (arith, least .within);
@@ -301,18 +294,18 @@ module _ {Shape Rec : Type 0} (judge : Judge Shape Rec) (full most : ℕ) (wrong
             total = omega arith;
           }
 
-          go : (v : Verdict Shape Rec) → judge (w .shape) base (partOf log base (w .held + n)) ≡ v
-              → Step rs w p (after (outcome v .answer) (outcome v .count) p ps) (outcome v)
-          go (more s e) j = step ps (outcome (more s e)) refl refl (feed-wants s e j)
-          go (sound r m next) j = step (drop n p ∷ ps) (outcome (sound r m next)) refl refl (feed-gives r m next j)
-          go (refused r) j = step ps (outcome (refused r)) refl refl (feed-stops r j)
+          go : (v : Verdict Shape Rec) → judge (w .shape) base (partOf log base (w .held + n)) ≡ v → Step rs w p (outcome v)
+          go (more s e) j = step (outcome (more s e)) refl refl (feed-wants s e j)
+          go (sound r m next) j = step (outcome (sound r m next)) refl refl (feed-gives r m next j)
+          go (refused r) j = step (outcome (refused r)) refl refl (feed-stops r j)
 
-    -- ---- a close of an open walker, with no more to come
+    -- ---- a close of an open walker, where no bytes are left
 
-    module _ (base : ℕ) (rs : List Rec) (w : Walker Shape) (last hold : List ℕ) (o : Open base rs [] w last) (l : Lent full (w .held) last hold) where
+    module _ (base : ℕ) (rs : List Rec) (w : Walker Shape) (last hold : List ℕ) (todo : drop (w .total) log ≡ []) (o : Open base rs w last)
+        (l : Lent full (w .held) last hold) where
       -- all of the log was taken
       all : length log ≤ w .total
-      all = omega (arith, ap length (o .todo), length-drop (w .total) log)
+      all = omega (arith, ap length todo, length-drop (w .total) log)
 
       abbrev y : List ℕ
       y = partOf log base (w .held)
@@ -322,7 +315,7 @@ module _ {Shape Rec : Type 0} (judge : Judge Shape Rec) (full most : ℕ) (wrong
           → P (closeOf judge full most wrong w hold)
       by-close P f =
           let s : start w ≡ base = omega (arith, o .place) in
-          rw (close-passed judge full most wrong w hold (open-range base rs [] w last o hold (l .size)) (o .awake), s, l .same, o .bytes)
+          rw (close-passed judge full most wrong w hold (open-range base rs w last o hold (l .size)) (o .awake), s, l .same, o .bytes)
           (go (judge (w .shape) base y) refl)
         where
           go : (v : Verdict Shape Rec) → judge (w .shape) base y ≡ v → P (closed w hold y v)
@@ -336,7 +329,7 @@ module _ {Shape Rec : Type 0} (judge : Judge Shape Rec) (full most : ℕ) (wrong
         says = refl;
         shut = record {
           keeps = refl;
-          ranged = λ h z. let i = open-range base rs [] w last o h z in
+          ranged = λ h z. let i = open-range base rs w last o h z in
               record { size = i .size; fits = i .fits; within = i .within; order = i .order; right = i .right };
         };
         final = λ m h.
@@ -353,8 +346,8 @@ module _ {Shape Rec : Type 0} (judge : Judge Shape Rec) (full most : ℕ) (wrong
       close-stops = by-close (Stopping rs w) ending-stops
 
       -- and is such a step.
-      pub close-step : Step rs w [] [] (closeOf judge full most wrong w hold)
-      close-step = by-close (Step rs w [] []) (λ s e j. record {
+      pub close-step : Step rs w [] (closeOf judge full most wrong w hold)
+      close-step = by-close (Step rs w []) (λ s e j. record {
         next = next-stops (ending-stops s e j);
         sooner = λ m i. o .sofar m (omega arith);
         within = omega arith;

@@ -9,33 +9,33 @@ use mathlib.Core.Bool.{Bool, true, false, _||_, cond}
 use mathlib.Core.List.{List, [], _∷_, _++_, append-assoc, append-nil}
 use native.Mathlib.Omega.{arith}
 use native.Mathlib.Nat.{zero-add}
-use lib.ListN.{length}
-use lib.Seq.{take-all}
+use lib.ListN.{length, drop}
+use lib.Seq.{take-all, drop-drop}
 use Rattle.numbers.specs.Range.{partOf}
 use Rattle.refusal.specs.declared.Ending.{Ending}
 use Rattle.pieces.specs.Verdict.{Judge}
 use Rattle.pieces.specs.Walk.{only, walk}
 use Rattle.pieces.specs.Feed.{Walker, Answer, gives, stops, wants, fresh, still, Feedable}
-use Rattle.pieces.specs.Run.{join, Call, after, tells, record?, stop?, outcomeOf, stopped, took, holding, told, feeds, closes, RunOf}
+use Rattle.pieces.specs.Run.{Call, tells, record?, stop?, outcomeOf, stopped, took, holding, told, feeds, closes, CallsOf, RunOf}
 use Rattle.pieces.specs.Prompt.{walkTo, pieceOf, lentTo, given}
-use Rattle.pieces.proofs.FeedLaws.{feed-kept, close-kept}
+use Rattle.pieces.proofs.FeedLaws.{feed-kept, close-kept, close-still}
 use Rattle.pieces.proofs.RunLaws.{adds, stopped-append, took-append, holding-append, told-append, told-stopped}
 use Rattle.pieces.proofs.OneCall.{Open, Shut, Next, next-gives, next-wants, next-stops, Step, rest-before, feed-step, close-step}
 
 module _ {Shape Rec : Type 0} (judge : Judge Shape Rec) (full most : ℕ) (wrong : ℕ → Shape → Bool) (sh : Shape) (log : List ℕ) where
-  -- After the calls bs the walker is w, the hold was left as `last`, and the pieces ps are to come.
-  pub data Reached (bs : List (Call (Walker Shape) Rec)) (ps : List (List ℕ)) (w : Walker Shape) (last : List ℕ) : Type 0 where
-    reached-open : (base : ℕ) → stopped bs ≡ false → w .total ≡ took bs → w .held ≡ holding 0 bs
-        → Open judge full most wrong sh log base (given bs) ps w last → Reached bs ps w last
-    reached-shut : (e : Ending) → stopped bs ≡ true → ((d : Ending) → told d bs ≡ walk judge sh 0 log)
-        → Shut judge full most wrong sh log e w → Reached bs ps w last
+  -- After the calls bs, of which one has stopped or none has, the walker is w, the hold was left as `last`, and `todo` was not taken yet.
+  pub data Reached (bs : List (Call (Walker Shape) Rec)) (w : Walker Shape) (last : List ℕ) : (ended : Bool) → (todo : List ℕ) → Type 0 where
+    reached-open : {todo : List ℕ} (base : ℕ) → stopped bs ≡ false → w .total ≡ took bs → w .held ≡ holding 0 bs → drop (w .total) log ≡ todo
+        → Open judge full most wrong sh log base (given bs) w last → Reached bs w last false todo
+    reached-shut : {todo : List ℕ} (e : Ending) → stopped bs ≡ true → ((d : Ending) → told d bs ≡ walk judge sh 0 log)
+        → Shut judge full most wrong sh log e w → Reached bs w last true todo
 
-  -- What the call c did, after the calls bs, to the walker w, with the pieces ps left to come.
-  pub data Called (bs : List (Call (Walker Shape) Rec)) (c : Call (Walker Shape) Rec) (ps : List (List ℕ)) : Type 0 where
-    called-open : (w : Walker Shape) → stopped bs ≡ false → w .total ≡ took bs → w .held ≡ holding 0 bs
-        → Step judge full most wrong sh log (given bs) w (pieceOf c) ps (outcomeOf c) → Called bs c ps
-    called-shut : (w : Walker Shape) (e : Ending) → stopped bs ≡ true → ((d : Ending) → told d bs ≡ walk judge sh 0 log)
-        → Shut judge full most wrong sh log e w → outcomeOf c ≡ still w (lentTo c) e → Called bs c ps
+  -- What the call c did, after the calls bs, to the walker w.
+  pub data Called (bs : List (Call (Walker Shape) Rec)) (c : Call (Walker Shape) Rec) : (ended : Bool) → (todo : List ℕ) → Type 0 where
+    called-open : {todo : List ℕ} (w : Walker Shape) → stopped bs ≡ false → w .total ≡ took bs → w .held ≡ holding 0 bs → drop (w .total) log ≡ todo
+        → Step judge full most wrong sh log (given bs) w (pieceOf c) (outcomeOf c) → Called bs c false todo
+    called-shut : {todo : List ℕ} (w : Walker Shape) (e : Ending) → stopped bs ≡ true → ((d : Ending) → told d bs ≡ walk judge sh 0 log)
+        → Shut judge full most wrong sh log e w → outcomeOf c ≡ still w (lentTo c) e → Called bs c true todo
 
   module _ (bs : List (Call (Walker Shape) Rec)) (c : Call (Walker Shape) Rec) (f : stopped bs ≡ false) where
     -- after calls that did not stop, a call that stops or not
@@ -49,11 +49,11 @@ module _ {Shape Rec : Type 0} (judge : Judge Shape Rec) (full most : ℕ) (wrong
     given-snoc a e = ap (λ t. t .records) (told-snoc (Ending.End 0 0) a e)
 
   -- a call leaves a state that is reached
-  called-reached : {bs : List (Call (Walker Shape) Rec)} {c : Call (Walker Shape) Rec} {ps : List (List ℕ)} → Called bs c ps
-      → Reached (bs ++ (c ∷ [])) ps (outcomeOf c .walker) (outcomeOf c .hold)
-  called-reached {bs} {c} {ps} (called-shut w e t f k s) =
+  called-reached : {bs : List (Call (Walker Shape) Rec)} {c : Call (Walker Shape) Rec} {ended : Bool} {todo : List ℕ} → Called bs c ended todo
+      → Reached (bs ++ (c ∷ [])) (outcomeOf c .walker) (outcomeOf c .hold) (ended || stop? (outcomeOf c .answer)) (drop (outcomeOf c .count) todo)
+  called-reached {bs} {c} (called-shut w e t f k s) =
       reached-shut e (stopped-append (c ∷ []) bs ∙ rw t) (λ d. told-stopped (c ∷ []) d bs t ∙ f d) (rw s k)
-  called-reached {bs} {c} {ps} (called-open w f t h s) = go (s .next)
+  called-reached {bs} {c} {ended} {todo} (called-open w f t h left s) = go (s .next)
     where
       total : outcomeOf c .walker .total ≡ took (bs ++ (c ∷ []))
       total = omega (arith, s .total, took-append (c ∷ []) bs)
@@ -61,65 +61,74 @@ module _ {Shape Rec : Type 0} (judge : Judge Shape Rec) (full most : ℕ) (wrong
       holds : holding 0 (bs ++ (c ∷ [])) ≡ cond (record? (outcomeOf c .answer)) 0 (holding 0 bs + outcomeOf c .count)
       holds = holding-append (c ∷ []) 0 bs
 
-      go : Next judge full most wrong sh log (given bs) w (pieceOf c) ps (outcomeOf c)
-          → Reached (bs ++ (c ∷ [])) ps (outcomeOf c .walker) (outcomeOf c .hold)
+      -- what is left is the log's bytes past those taken
+      leaves : drop (outcomeOf c .walker .total) log ≡ drop (outcomeOf c .count) todo
+      leaves = ap (λ n. drop n log) (s .total) ∙ sym (drop-drop (outcomeOf c .count) (w .total) log) ∙ ap (drop (outcomeOf c .count)) left
+
+      go : Next judge full most wrong sh log (given bs) w (pieceOf c) (outcomeOf c)
+          → Reached (bs ++ (c ∷ [])) (outcomeOf c .walker) (outcomeOf c .hold) (stop? (outcomeOf c .answer)) (drop (outcomeOf c .count) todo)
       go (next-gives r a o z p front) =
-          reached-open (outcomeOf c .walker .total) (stopped-snoc bs c f ∙ rw a) total (z ∙ sym (holds ∙ rw a)) (rw (given-snoc bs c f (gives r) a) o)
+          rw (ap stop? a) (reached-open (outcomeOf c .walker .total) (stopped-snoc bs c f ∙ rw a) total (z ∙ sym (holds ∙ rw a)) leaves
+          (rw (given-snoc bs c f (gives r) a) o))
       go (next-wants base a o z all) =
-          reached-open base (stopped-snoc bs c f ∙ rw a) total (z ∙ ap (λ n. n + outcomeOf c .count) h ∙ sym (holds ∙ rw a)) (rw (given-snoc bs c f wants a, append-nil (given bs)) o)
+          rw (ap stop? a) (reached-open base (stopped-snoc bs c f ∙ rw a) total (z ∙ ap (λ n. n + outcomeOf c .count) h ∙ sym (holds ∙ rw a)) leaves
+          (rw (given-snoc bs c f wants a, append-nil (given bs)) o))
       go (next-stops x) =
           let m : ℕ = w .total + outcomeOf c .count + length log in
-          reached-shut (x .ending) (stopped-snoc bs c f ∙ rw (x .says))
+          rw (ap stop? (x .says)) (reached-shut (x .ending) (stopped-snoc bs c f ∙ rw (x .says))
           (λ d. told-snoc bs c f d (stops (x .ending)) (x .says)
           ∙ ap (λ l. record { records = l; ending = x .ending }) (append-nil (given bs))
           ∙ sym (x .final m (omega arith))
           ∙ ap (walk judge sh 0) (take-all m log (omega arith)))
-          (x .shut)
+          (x .shut))
 
-  -- A walker that is shut says the same again, takes nothing and leaves the hold as it is, at every call of a run from there on.
-  pub shut-repeats : {ps : List (List ℕ)} {w : Walker Shape} {last : List ℕ} (e : Ending) (cs : List (Call (Walker Shape) Rec)) (d : Call (Walker Shape) Rec)
-      (ds : List (Call (Walker Shape) Rec)) → Shut judge full most wrong sh log e w → RunOf judge full most wrong ps w last (cs ++ (d ∷ ds))
-      → outcomeOf d ≡ still w (lentTo d) e
-  shut-repeats e [] d ds k (feeds {p = p} {w = w} {hold = hold} l q r) =
+  -- A walker that is shut says the same again, takes nothing and leaves the hold as it is, at every call from there on.
+  pub shut-repeats : {ended : Bool} {todo : List ℕ} {w : Walker Shape} {last : List ℕ} (e : Ending) (cs : List (Call (Walker Shape) Rec))
+      (d : Call (Walker Shape) Rec) (ds : List (Call (Walker Shape) Rec)) → Shut judge full most wrong sh log e w
+      → CallsOf judge full most wrong ended todo w last (cs ++ (d ∷ ds)) → outcomeOf d ≡ still w (lentTo d) e
+  shut-repeats e [] d ds k (feeds {p = p} {w = w} {hold = hold} m l q r) =
       q ∙ feed-kept judge full most wrong w hold (k .ranged hold (l .size)) p e (k .keeps)
-  shut-repeats e [] d ds k (closes {w = w} {hold = hold} l q r) =
+  shut-repeats e [] d ds k (closes {w = w} {hold = hold} m l q r) =
       q ∙ close-kept judge full most wrong w hold (k .ranged hold (l .size)) e (k .keeps)
-  shut-repeats e (c ∷ cs) d ds k (feeds {p = p} {w = w} {hold = hold} l q r) =
+  shut-repeats e (c ∷ cs) d ds k (feeds {p = p} {w = w} {hold = hold} m l q r) =
       let i = q ∙ feed-kept judge full most wrong w hold (k .ranged hold (l .size)) p e (k .keeps) in
       shut-repeats e cs d ds (rw i k) r ∙ rw i
-  shut-repeats e (c ∷ cs) d ds k (closes {w = w} {hold = hold} l q r) =
+  shut-repeats e (c ∷ cs) d ds k (closes {w = w} {hold = hold} m l q r) =
       let i = q ∙ close-kept judge full most wrong w hold (k .ranged hold (l .size)) e (k .keeps) in
       shut-repeats e cs d ds (rw i k) r ∙ rw i
 
   module _ (able : Feedable judge full wrong) (short : length log ≤ most) where
     -- the first call of what is left of a run, and the rest of it
-    one-call : {bs : List (Call (Walker Shape) Rec)} {ps : List (List ℕ)} {w : Walker Shape} {last : List ℕ} {c : Call (Walker Shape) Rec} {cs : List (Call (Walker Shape) Rec)}
-        → Reached bs ps w last → RunOf judge full most wrong ps w last (c ∷ cs)
-        → (qs : List (List ℕ)) × Called bs c qs × RunOf judge full most wrong qs (outcomeOf c .walker) (outcomeOf c .hold) cs
-    one-call (reached-open base f t h o) (feeds {p = p} {ps = ps} {w = w} {last = last} {hold = hold} {o = x} l q r) =
-        (after (x .answer) (x .count) p ps, called-open w f t h (rw q (feed-step judge full most wrong sh log able short base _ p ps w last hold o l)), r)
-    one-call (reached-open base f t h o) (closes {w = w} {last = last} {hold = hold} l q r) =
-        ([], called-open w f t h (rw q (close-step judge full most wrong sh log able short base _ w last hold o l)), r)
-    one-call (reached-shut e t f k) (feeds {p = p} {w = w} {hold = hold} l q r) =
-        (_, called-shut w e t f k (q ∙ feed-kept judge full most wrong w hold (k .ranged hold (l .size)) p e (k .keeps)), r)
-    one-call (reached-shut e t f k) (closes {w = w} {hold = hold} l q r) =
-        (_, called-shut w e t f k (q ∙ close-kept judge full most wrong w hold (k .ranged hold (l .size)) e (k .keeps)), r)
+    one-call : {bs : List (Call (Walker Shape) Rec)} {ended : Bool} {todo : List ℕ} {w : Walker Shape} {last : List ℕ} {c : Call (Walker Shape) Rec}
+        {cs : List (Call (Walker Shape) Rec)} → Reached bs w last ended todo → CallsOf judge full most wrong ended todo w last (c ∷ cs)
+        → Called bs c ended todo
+        × CallsOf judge full most wrong (ended || stop? (outcomeOf c .answer)) (drop (outcomeOf c .count) todo) (outcomeOf c .walker) (outcomeOf c .hold) cs
+    one-call (reached-open base f t h left o) (feeds {p = p} {w = w} {last = last} {hold = hold} m l q r) =
+        (called-open w f t h left (rw q (feed-step judge full most wrong sh log able short base _ p (m .0) w last hold (left ∙ m .1) o l)), r)
+    one-call (reached-open base f t h left o) (closes {w = w} {last = last} {hold = hold} {o = x} m l q r) =
+        let none : x .count ≡ 0 = ap (λ y. y .count) q ∙ close-still judge full most wrong w hold .0 in
+        (called-open w f t h left (rw q (close-step judge full most wrong sh log able short base _ w last hold (left ∙ m) o l)), rw none r)
+    one-call (reached-shut e t f k) (feeds {p = p} {w = w} {hold = hold} m l q r) =
+        (called-shut w e t f k (q ∙ feed-kept judge full most wrong w hold (k .ranged hold (l .size)) p e (k .keeps)), r)
+    one-call (reached-shut e t f k) (closes {w = w} {hold = hold} {o = x} m l q r) =
+        let none : x .count ≡ 0 = ap (λ y. y .count) q ∙ close-still judge full most wrong w hold .0 in
+        (called-shut w e t f k (q ∙ close-kept judge full most wrong w hold (k .ranged hold (l .size)) e (k .keeps)), rw none r)
 
     -- the state after the first calls of what is left of a run
-    reach : {ps : List (List ℕ)} {w : Walker Shape} {last : List ℕ} (ds bs cs : List (Call (Walker Shape) Rec)) → Reached ds ps w last
-        → RunOf judge full most wrong ps w last (bs ++ cs)
-        → (qs : List (List ℕ)) × (v : Walker Shape) × (hold : List ℕ) × Reached (ds ++ bs) qs v hold × RunOf judge full most wrong qs v hold cs
-    reach {ps} {w} {last} ds [] cs s r = (ps, w, last, rw (append-nil ds) s, r)
+    reach : {ended : Bool} {todo : List ℕ} {w : Walker Shape} {last : List ℕ} (ds bs cs : List (Call (Walker Shape) Rec)) → Reached ds w last ended todo
+        → CallsOf judge full most wrong ended todo w last (bs ++ cs)
+        → (over : Bool) × (left : List ℕ) × (v : Walker Shape) × (hold : List ℕ) × Reached (ds ++ bs) v hold over left × CallsOf judge full most wrong over left v hold cs
+    reach {ended} {todo} {w} {last} ds [] cs s r = (ended, todo, w, last, rw (append-nil ds) s, r)
     reach ds (b ∷ bs) cs s r =
-        let (qs, c, r′) = one-call s r in
-        let (os, v, hold, t, z) = reach (ds ++ (b ∷ [])) bs cs (called-reached c) r′ in
-        (os, v, hold, rw (append-assoc ds (b ∷ []) bs) at t, z)
+        let (c, r′) = one-call s r in
+        let (over, left, v, hold, t, z) = reach (ds ++ (b ∷ [])) bs cs (called-reached c) r′ in
+        (over, left, v, hold, rw (append-assoc ds (b ∷ []) bs) at t, z)
 
     -- ---- from a fresh walker
 
-    module _ (ps : List (List ℕ)) (last : List ℕ) (all : join ps ≡ log) (ok : wrong 0 sh ≡ false) where
+    module _ (last : List ℕ) (ok : wrong 0 sh ≡ false) where
       -- A fresh walker is open, with nothing held and no records given.
-      pub fresh-open : Open judge full most wrong sh log 0 [] ps (fresh sh) last
+      pub fresh-open : Open judge full most wrong sh log 0 [] (fresh sh) last
       fresh-open =
           let rest : (k : ℕ) → walkTo judge sh log (0 + k) ≡ adds [] (walk judge sh 0 (partOf log 0 k)) = λ k. rw (zero-add k) in
           record {
@@ -127,7 +136,6 @@ module _ {Shape Rec : Type 0} (judge : Judge Shape Rec) (full most : ℕ) (wrong
             fine = ok;
             place = refl;
             reach = omega arith;
-            todo = sym all;
             bytes = refl;
             waits = able .steady sh 0 .opens;
             rest = rest;
@@ -137,12 +145,13 @@ module _ {Shape Rec : Type 0} (judge : Judge Shape Rec) (full most : ℕ) (wrong
           }
 
       -- The state after the first calls of a run is reached.
-      pub after-calls : (bs cs : List (Call (Walker Shape) Rec)) → RunOf judge full most wrong ps (fresh sh) last (bs ++ cs)
-          → (qs : List (List ℕ)) × (v : Walker Shape) × (hold : List ℕ) × Reached bs qs v hold × RunOf judge full most wrong qs v hold cs
-      after-calls bs cs r = reach [] bs cs (reached-open 0 refl refl refl fresh-open) r
+      pub after-calls : (bs cs : List (Call (Walker Shape) Rec)) → RunOf judge full most wrong log (fresh sh) last (bs ++ cs)
+          → (over : Bool) × (left : List ℕ) × (v : Walker Shape) × (hold : List ℕ) × Reached bs v hold over left × CallsOf judge full most wrong over left v hold cs
+      after-calls bs cs r = reach [] bs cs (reached-open 0 refl refl refl refl fresh-open) r
 
       -- So any call of a run is made in such a state; and the rest of the run.
       pub call-at : (bs : List (Call (Walker Shape) Rec)) (c : Call (Walker Shape) Rec) (cs : List (Call (Walker Shape) Rec))
-          → RunOf judge full most wrong ps (fresh sh) last (bs ++ (c ∷ cs))
-          → (qs : List (List ℕ)) × Called bs c qs × RunOf judge full most wrong qs (outcomeOf c .walker) (outcomeOf c .hold) cs
-      call-at bs c cs r = let (qs, v, hold, s, z) = after-calls bs (c ∷ cs) r in one-call s z
+          → RunOf judge full most wrong log (fresh sh) last (bs ++ (c ∷ cs))
+          → (over : Bool) × (left : List ℕ) × Called bs c over left
+          × CallsOf judge full most wrong (over || stop? (outcomeOf c .answer)) (drop (outcomeOf c .count) left) (outcomeOf c .walker) (outcomeOf c .hold) cs
+      call-at bs c cs r = let (over, left, v, hold, s, z) = after-calls bs (c ∷ cs) r in let (d, y) = one-call s z in (over, left, d, y)

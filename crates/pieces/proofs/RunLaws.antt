@@ -2,7 +2,7 @@
 -- type of walker as runs of another.
 --   adds                        records before what is told
 --   callsSeen-append, -stopped, -told   calls of walkers that are seen as walkers of another type
---   run-seen                    where each walker keeps its promises as such, a run of the first is a run of the second
+--   calls-seen, order-seen      where each walker keeps its promises as such, a run of the first is a run of the second, in order too
 -- Assumes nothing.
 use Prim.Native.Nat.{ℕ, _+_}
 use mathlib.Core.Path.{_≡_, refl, sym, ap, _∙_}
@@ -13,7 +13,7 @@ use Rattle.numbers.proofs.ByCases.{both}
 use Rattle.refusal.specs.declared.Ending.{Ending}
 use Rattle.pieces.specs.Walk.{Told, add}
 use Rattle.pieces.specs.Feed.{Answer, gives, stops, wants, Outcome}
-use Rattle.pieces.specs.Run.{Call, fedCall, closeCall, tells, record?, stop?, outcomeOf, stopped, took, holding, told, Lent, Run, rests, feeds, closes, seenAs, callSeen, callsSeen}
+use Rattle.pieces.specs.Run.{Call, fedCall, closeCall, tells, record?, stop?, outcomeOf, stopped, took, holding, told, Lent, Calls, rests, feeds, closes, InOrder, passes, feedsOn, closesAll, seenAs, callSeen, callsSeen}
 use Rattle.pieces.specs.Prompt.{given}
 
 -- records, and then what is told
@@ -98,8 +98,14 @@ module _ {W X Rec : Type 0} (see : W → X) where
     lent-seen : (w : W) {last hold : List ℕ} → Lent full (held w) last hold → Lent full (held′ (see w)) last hold
     lent-seen w l = rw (same w) l
 
-    pub run-seen : {ps : List (List ℕ)} {w : W} {last : List ℕ} {cs : List (Call W Rec)} → Run full held Feeds Closes ps w last cs
-        → Run full held′ Feeds′ Closes′ ps (see w) last (callsSeen see cs)
-    run-seen rests = rests
-    run-seen (feeds {p = p} {w = w} {hold = hold} {o = o} l f r) = feeds (lent-seen w l) (fed w hold p o f) (run-seen r)
-    run-seen (closes {w = w} {hold = hold} {o = o} l c r) = closes (lent-seen w l) (shut w hold o c) (run-seen r)
+    pub calls-seen : {ended : Bool} {todo : List ℕ} {w : W} {last : List ℕ} {cs : List (Call W Rec)} → Calls full held Feeds Closes ended todo w last cs
+        → Calls full held′ Feeds′ Closes′ ended todo (see w) last (callsSeen see cs)
+    calls-seen rests = rests
+    calls-seen (feeds {p = p} {w = w} {hold = hold} {o = o} m l f r) = feeds m (lent-seen w l) (fed w hold p o f) (calls-seen r)
+    calls-seen (closes {w = w} {hold = hold} {o = o} m l c r) = closes m (lent-seen w l) (shut w hold o c) (calls-seen r)
+
+    pub order-seen : {ps : List (List ℕ)} {w : W} {last : List ℕ} {cs : List (Call W Rec)} → InOrder full held Feeds Closes ps w last cs
+        → InOrder full held′ Feeds′ Closes′ ps (see w) last (callsSeen see cs)
+    order-seen (passes r) = passes (order-seen r)
+    order-seen (feedsOn {p = p} {w = w} {hold = hold} {o = o} l f r) = feedsOn (lent-seen w l) (fed w hold p o f) (order-seen r)
+    order-seen (closesAll {w = w} {hold = hold} {o = o} l c) = closesAll (lent-seen w l) (shut w hold o c)

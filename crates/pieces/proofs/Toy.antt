@@ -22,11 +22,11 @@ use Rattle.pieces.specs.Walk.{Told, only, walk, wholeWalk}
 use Rattle.pieces.specs.Slots.{into}
 use Rattle.pieces.specs.Taken.{taken}
 use Rattle.pieces.specs.Feed.{Walker, Outcome, gives, stops, wants, fresh, still, feedOf, closeOf, Feedable}
-use Rattle.pieces.specs.Run.{join, Call, fedCall, closeCall, outcomeOf, stopped, told, Lent, rests, feeds, closes, RunOf}
+use Rattle.pieces.specs.Run.{join, Call, fedCall, closeCall, outcomeOf, told, Lent, rests, feeds, closes, RunOf, feedsOn, closesAll, InOrderOf}
 use Rattle.pieces.specs.Prompt.{walkTo, Before, lentTo, Prompt}
 use Rattle.pieces.proofs.PlanLaws.{Gives, Denies, read-steady, read-within, read-gives, read-denies}
 use Rattle.pieces.proofs.TakenLaws.{jump, jump-taken, stop, stop-taken}
-use Rattle.pieces.proofs.Agreement.{agreement, runs-exist}
+use Rattle.pieces.proofs.Agreement.{agreement-closed, order-run, order-agrees, order-exists}
 use Rattle.pieces.proofs.Promptness.{prompt, repeats}
 
 -- ---- the format
@@ -66,27 +66,33 @@ within sh base = read-within 4 base (want 1 (after-byte base))
 able : Feedable judge 4 wrong
 able = record { steady = steady; within = within; right = λ sh base p r n next j ok. refl; grows = λ sh t u h ok. refl }
 
--- Agreement.
-pub agrees : (ps : List (List ℕ)) (last : List ℕ) (cs : List (Call (Walker (Unit {0})) Item)) → length (join ps) ≤ 12
-    → RunOf judge 4 12 wrong ps (fresh tt) last cs → stopped cs ≡ true → (e : Ending) → told e cs ≡ walk judge tt 0 (join ps)
-agrees ps last cs = agreement judge 4 12 wrong able tt ps last cs refl
+-- Agreement, of every run with a close,
+pub agrees : (log last : List ℕ) (bs : List (Call (Walker (Unit {0})) Item)) (hold : List ℕ) (o : Outcome (Walker (Unit {0})) Item)
+    (cs : List (Call (Walker (Unit {0})) Item)) → length log ≤ 12 → RunOf judge 4 12 wrong log (fresh tt) last (bs ++ (closeCall hold o ∷ cs)) → (e : Ending)
+    → told e (bs ++ (closeCall hold o ∷ cs)) ≡ walk judge tt 0 log
+agrees log last bs hold o cs = agreement-closed judge 4 12 wrong able tt log last bs hold o cs refl
+
+-- and of pieces fed in order.
+pub order-tells : (ps : List (List ℕ)) (last : List ℕ) (cs : List (Call (Walker (Unit {0})) Item)) → length (join ps) ≤ 12
+    → InOrderOf judge 4 12 wrong ps (fresh tt) last cs → (e : Ending) → told e cs ≡ walk judge tt 0 (join ps)
+order-tells ps last cs = order-agrees judge 4 12 wrong able tt ps last cs refl
 
 -- Promptness.
-pub is-prompt : (ps : List (List ℕ)) (last : List ℕ) (bs : List (Call (Walker (Unit {0})) Item)) (c : Call (Walker (Unit {0})) Item) (cs : List (Call (Walker (Unit {0})) Item))
-    → length (join ps) ≤ 12 → RunOf judge 4 12 wrong ps (fresh tt) last (bs ++ (c ∷ cs)) → Prompt judge tt (join ps) bs c
-is-prompt ps last bs c cs = prompt judge 4 12 wrong able tt ps last bs c cs refl
+pub is-prompt : (log last : List ℕ) (bs : List (Call (Walker (Unit {0})) Item)) (c : Call (Walker (Unit {0})) Item) (cs : List (Call (Walker (Unit {0})) Item))
+    → length log ≤ 12 → RunOf judge 4 12 wrong log (fresh tt) last (bs ++ (c ∷ cs)) → Prompt judge tt log bs c
+is-prompt log last bs c cs = prompt judge 4 12 wrong able tt log last bs c cs refl
 
 -- After a stop, the same again.
-pub says-again : (ps : List (List ℕ)) (last : List ℕ) (bs : List (Call (Walker (Unit {0})) Item)) (c : Call (Walker (Unit {0})) Item) (cs : List (Call (Walker (Unit {0})) Item))
-    (d : Call (Walker (Unit {0})) Item) (ds : List (Call (Walker (Unit {0})) Item)) (e : Ending) → length (join ps) ≤ 12
-    → RunOf judge 4 12 wrong ps (fresh tt) last (bs ++ (c ∷ (cs ++ (d ∷ ds)))) → outcomeOf c .answer ≡ stops e
+pub says-again : (log last : List ℕ) (bs : List (Call (Walker (Unit {0})) Item)) (c : Call (Walker (Unit {0})) Item) (cs : List (Call (Walker (Unit {0})) Item))
+    (d : Call (Walker (Unit {0})) Item) (ds : List (Call (Walker (Unit {0})) Item)) (e : Ending) → length log ≤ 12
+    → RunOf judge 4 12 wrong log (fresh tt) last (bs ++ (c ∷ (cs ++ (d ∷ ds)))) → outcomeOf c .answer ≡ stops e
     → outcomeOf d ≡ still (outcomeOf c .walker) (lentTo d) e
-says-again ps last bs c cs d ds e = repeats judge 4 12 wrong able tt ps last bs c cs d ds e refl
+says-again log last bs c cs d ds e = repeats judge 4 12 wrong able tt log last bs c cs d ds e refl
 
--- There are runs that stop.
-pub has-runs : (ps : List (List ℕ)) (hold : List ℕ) → length (join ps) ≤ 12 → 4 ≤ length hold
-    → (cs : List (Call (Walker (Unit {0})) Item)) × RunOf judge 4 12 wrong ps (fresh tt) hold cs × (stopped cs ≡ true)
-has-runs ps hold = runs-exist judge 4 12 wrong able tt ps hold refl
+-- There are calls that feed pieces in order.
+pub has-calls : (ps : List (List ℕ)) (hold : List ℕ) → length (join ps) ≤ 12 → 4 ≤ length hold
+    → (cs : List (Call (Walker (Unit {0})) Item)) × InOrderOf judge 4 12 wrong ps (fresh tt) hold cs
+has-calls ps hold = order-exists judge 4 12 wrong able tt ps hold refl
 
 -- To go from field's end to field's end takes the same bytes,
 pub jumps : (base : ℕ) (h p : List ℕ) → jump (judge tt base) h p ≡ taken (judge tt base) h p
@@ -234,24 +240,26 @@ later =
 four : {held : ℕ} {last : List ℕ} {a b c d : ℕ} → take held (a ∷ b ∷ c ∷ d ∷ []) ≡ take held last → Lent 4 held last (a ∷ b ∷ c ∷ d ∷ [])
 four s = record { size = omega arith; same = s }
 
--- the last four first: one run of seven is slow to check
-later-calls : RunOf judge 4 12 wrong ((2 ∷ []) ∷ (8 ∷ 9 ∷ []) ∷ []) (walker 0 2) (1 ∷ 7 ∷ 4 ∷ 4 ∷ []) later
+-- the last four first: seven at once are slow to check
+later-calls : InOrderOf judge 4 12 wrong ((2 ∷ []) ∷ (8 ∷ 9 ∷ []) ∷ []) (walker 0 2) (1 ∷ 7 ∷ 4 ∷ 4 ∷ []) later
 unfolding feedOf closeOf taken judge
-later-calls = feeds (four refl) refl (feeds (four refl) refl (feeds (four refl) refl (closes (four refl) refl rests)))
+later-calls = feedsOn (four refl) refl (feedsOn (four refl) refl (feedsOn (four refl) refl (closesAll (four refl) refl)))
 
-seven-calls : RunOf judge 4 12 wrong pieces (fresh tt) [] (first-two ++ (third ∷ later))
+seven-calls : InOrderOf judge 4 12 wrong pieces (fresh tt) [] (first-two ++ (third ∷ later))
 unfolding feedOf taken judge
-seven-calls = feeds (four refl) refl (feeds (four refl) refl (feeds (four refl) refl later-calls))
+seven-calls = feedsOn (four refl) refl (feedsOn (four refl) refl (feedsOn (four refl) refl later-calls))
 
 -- what they tell, by agreement
 seven-tell : (e : Ending) → told e (first-two ++ (third ∷ later)) ≡ walk judge tt 0 (1 ∷ 7 ∷ 2 ∷ 8 ∷ 9 ∷ [])
-seven-tell = agrees pieces [] (first-two ++ (third ∷ later)) (omega arith) seven-calls refl
+seven-tell = order-tells pieces [] (first-two ++ (third ∷ later)) (omega arith) seven-calls
 
 -- the third call gives the first record with its last byte, and the walk of no shorter beginning has it
 third-first : (m : ℕ) → m < 2 → Before [] (walkTo judge tt (1 ∷ 7 ∷ 2 ∷ 8 ∷ 9 ∷ []) m)
-third-first = is-prompt pieces [] first-two third later (omega arith) seven-calls .gave-first (record { at = 0; bytes = 7 ∷ [] }) refl
+third-first =
+    is-prompt (1 ∷ 7 ∷ 2 ∷ 8 ∷ 9 ∷ []) [] first-two third later (omega arith) (order-run judge 4 12 wrong able pieces (fresh tt) [] _ seven-calls)
+    .gave-first (record { at = 0; bytes = 7 ∷ [] }) refl
 
--- ---- a refusal, and the same again at a feed and at a close
+-- ---- a refusal, and the same again at a close and at a feed of bytes that the log does not have
 
 abbrev refusing : Call (Walker (Unit {0})) Item
 refusing = fedCall (255 ∷ 1 ∷ []) (0 ∷ 0 ∷ 0 ∷ 0 ∷ [])
@@ -263,6 +271,6 @@ again = fedCall (3 ∷ []) (255 ∷ 8 ∷ 8 ∷ 8 ∷ []) (still (done 1 1 (refu
 abbrev at-close : Call (Walker (Unit {0})) Item
 at-close = closeCall (255 ∷ 9 ∷ 9 ∷ 9 ∷ []) (still (done 1 1 (refusedWith BadValue 0)) (255 ∷ 9 ∷ 9 ∷ 9 ∷ []) (refusedWith BadValue 0))
 
-refused-again : RunOf judge 4 12 wrong ((255 ∷ 1 ∷ []) ∷ (3 ∷ []) ∷ []) (fresh tt) [] (refusing ∷ again ∷ at-close ∷ [])
+refused-again : RunOf judge 4 12 wrong (255 ∷ 1 ∷ []) (fresh tt) [] (refusing ∷ at-close ∷ again ∷ [])
 unfolding feedOf closeOf taken judge
-refused-again = feeds (four refl) refl (feeds (four refl) refl (closes (four refl) refl rests))
+refused-again = feeds {ended = false} ([], refl) (four refl) refl (closes tt (four refl) refl (feeds tt (four refl) refl rests))

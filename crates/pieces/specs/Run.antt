@@ -1,11 +1,12 @@
--- A run: the calls that a caller makes, one after the other, to feed a list of pieces in order and then close (document 01, demand 3).
---   Call               one feed or one close: what was fed, the hold that was lent, and the outcome
---   Run .. ps w h cs   from the walker w, with h the hold as the last call left it and ps the pieces still to be fed, the calls cs; over any
---                      type of walker and over what its feeds and closes promise of their outcomes
---   RunOf ..           the runs of the walkers of specs/Feed.antt
---   callsSeen see cs   calls of one type of walker, seen as calls of another
--- What is left of a piece after a record is fed again; a run may stop after any call, and may go on after a refusal or the end.
--- Each hold has full size and agrees with the one before on the held bytes only.
+-- A run: the calls that any caller makes, one after the other, to feed a log and then close (document 01, demand 3).
+--   Call                    one feed or one close: what was fed, the hold that was lent, and the outcome
+--   Run .. todo w last cs   from the walker w, with `todo` the log's bytes that were not taken yet and `last` the hold as the last call left it,
+--                           the calls cs; over any type of walker and over what its feeds and closes promise of their outcomes
+--   RunOf ..                the runs of the walkers of specs/Feed.antt
+--   InOrder .. ps w last cs the calls cs feed the pieces ps in order, what is left of a piece again after a record, and then close
+--   callsSeen see cs        calls of one type of walker, seen as calls of another
+-- A feed is given any beginning of the bytes not taken yet, the empty one too; a close comes when none are left; after a stop any call may follow.
+-- Each hold has full size and agrees with the one before on the held bytes only. A run may rest after any call.
 -- Theorems: proofs/Agreement.antt, proofs/Promptness.antt. Assumes nothing.
 use Prim.Native.Nat.{ℕ, _+_, _≤_}
 use mathlib.Core.Path.{_≡_}
@@ -80,27 +81,69 @@ pub record Lent (full held : ℕ) (last hold : List ℕ) : Type 0 where
   pub size : full ≤ length hold
   pub same : take held hold ≡ take held last
 
+-- what may be fed, and when the log may be closed, where `todo` was not taken yet and a call has stopped, or none has
+abbrev pub MayFeed : Bool → List ℕ → List ℕ → Type 0
+MayFeed true todo p = Unit {0}
+MayFeed false todo p = (rest : List ℕ) × (todo ≡ p ++ rest)
+
+abbrev pub MayClose : Bool → List ℕ → Type 0
+MayClose true todo = Unit {0}
+MayClose false todo = todo ≡ []
+
 -- how many bytes a walker holds, and what a feed of it and a close of it promise
 module _ {W Rec : Type 0} (full : ℕ) (held : W → ℕ) (Feeds : W → List ℕ → List ℕ → Outcome W Rec → Type 0)
     (Closes : W → List ℕ → Outcome W Rec → Type 0) where
-  pub data Run : List (List ℕ) → W → List ℕ → List (Call W Rec) → Type 0 where
-    rests : {ps : List (List ℕ)} {w : W} {last : List ℕ} → Run ps w last []
-    feeds : {p : List ℕ} {ps : List (List ℕ)} {w : W} {last hold : List ℕ} {o : Outcome W Rec} {cs : List (Call W Rec)}
+  -- `ended` says whether a call has stopped
+  pub data Calls : (ended : Bool) → List ℕ → W → List ℕ → List (Call W Rec) → Type 0 where
+    rests : {ended : Bool} {todo : List ℕ} {w : W} {last : List ℕ} → Calls ended todo w last []
+    feeds : {ended : Bool} {todo p : List ℕ} {w : W} {last hold : List ℕ} {o : Outcome W Rec} {cs : List (Call W Rec)}
+        → MayFeed ended todo p
         → Lent full (held w) last hold
         → Feeds w hold p o
-        → Run (after (o .answer) (o .count) p ps) (o .walker) (o .hold) cs
-        → Run (p ∷ ps) w last (fedCall p hold o ∷ cs)
-    closes : {w : W} {last hold : List ℕ} {o : Outcome W Rec} {cs : List (Call W Rec)}
+        → Calls (ended || stop? (o .answer)) (drop (o .count) todo) (o .walker) (o .hold) cs
+        → Calls ended todo w last (fedCall p hold o ∷ cs)
+    closes : {ended : Bool} {todo : List ℕ} {w : W} {last hold : List ℕ} {o : Outcome W Rec} {cs : List (Call W Rec)}
+        → MayClose ended todo
         → Lent full (held w) last hold
         → Closes w hold o
-        → Run [] (o .walker) (o .hold) cs
-        → Run [] w last (closeCall hold o ∷ cs)
+        → Calls (ended || stop? (o .answer)) todo (o .walker) (o .hold) cs
+        → Calls ended todo w last (closeCall hold o ∷ cs)
+
+  -- no call has stopped yet
+  abbrev pub Run : List ℕ → W → List ℕ → List (Call W Rec) → Type 0
+  Run todo w last cs = Calls false todo w last cs
+
+  -- an empty piece, and an empty rest of one, may be left out
+  pub data InOrder : List (List ℕ) → W → List ℕ → List (Call W Rec) → Type 0 where
+    passes : {ps : List (List ℕ)} {w : W} {last : List ℕ} {cs : List (Call W Rec)} → InOrder ps w last cs → InOrder ([] ∷ ps) w last cs
+    feedsOn : {p : List ℕ} {ps : List (List ℕ)} {w : W} {last hold : List ℕ} {o : Outcome W Rec} {cs : List (Call W Rec)}
+        → Lent full (held w) last hold
+        → Feeds w hold p o
+        → InOrder (after (o .answer) (o .count) p ps) (o .walker) (o .hold) cs
+        → InOrder (p ∷ ps) w last (fedCall p hold o ∷ cs)
+    closesAll : {w : W} {last hold : List ℕ} {o : Outcome W Rec}
+        → Lent full (held w) last hold
+        → Closes w hold o
+        → InOrder [] w last (closeCall hold o ∷ [])
 
 module _ {Shape Rec : Type 0} (judge : Judge Shape Rec) (full most : ℕ) (wrong : ℕ → Shape → Bool) where
-  abbrev pub RunOf : List (List ℕ) → Walker Shape → List ℕ → List (Call (Walker Shape) Rec) → Type 0
-  RunOf ps w last cs =
-      Run full (λ (v : Walker Shape). v .held) (λ v hold p o. o ≡ feedOf judge full most wrong v hold p)
-      (λ v hold o. o ≡ closeOf judge full most wrong v hold) ps w last cs
+  abbrev pub heldBy : Walker Shape → ℕ
+  heldBy w = w .held
+
+  abbrev pub FeedsBy : Walker Shape → List ℕ → List ℕ → Outcome (Walker Shape) Rec → Type 0
+  FeedsBy w hold p o = o ≡ feedOf judge full most wrong w hold p
+
+  abbrev pub ClosesBy : Walker Shape → List ℕ → Outcome (Walker Shape) Rec → Type 0
+  ClosesBy w hold o = o ≡ closeOf judge full most wrong w hold
+
+  abbrev pub CallsOf : Bool → List ℕ → Walker Shape → List ℕ → List (Call (Walker Shape) Rec) → Type 0
+  CallsOf ended todo w last cs = Calls full heldBy FeedsBy ClosesBy ended todo w last cs
+
+  abbrev pub RunOf : List ℕ → Walker Shape → List ℕ → List (Call (Walker Shape) Rec) → Type 0
+  RunOf todo w last cs = CallsOf false todo w last cs
+
+  abbrev pub InOrderOf : List (List ℕ) → Walker Shape → List ℕ → List (Call (Walker Shape) Rec) → Type 0
+  InOrderOf ps w last cs = InOrder full heldBy FeedsBy ClosesBy ps w last cs
 
 -- outcomes and calls of a walker of type W, where it is seen as one of type X
 module _ {W X Rec : Type 0} (see : W → X) where

@@ -1,15 +1,11 @@
 -- An agile log that divides: a marker with two pairs, a record with two digests and one byte of data, and a tail of three. Assumes nothing.
 use Prim.Native.Nat.{ℕ}
 use mathlib.Core.Path.{_≡_, refl}
-use mathlib.Core.Bool.{Bool, true, false, cond}
 use mathlib.Core.List.{List, [], _∷_, _++_}
-use lib.Dec.{ltb}
 use lib.ListN.{replicate}
-use borrow.Author.Tests.{ltb-true}
-use Rattle.numbers.proofs.ByCases.{never}
 use Rattle.numbers.specs.Number.{bytesOf, Bytes}
 use Rattle.numbers.specs.Range.{spanOf}
-use Rattle.numbers.proofs.NumberLaws.{bytes-nil, bytes-cons}
+use Rattle.numbers.proofs.NumberLaws.{small-bytes}
 use Rattle.refusal.specs.declared.Ending.{Ending}
 use Rattle.contents.specs.declared.Contents.{Contents}
 use Rattle.contents.proofs.Cases.{computing as dataComputing}
@@ -21,20 +17,6 @@ use Rattle.walk.specs.Fill.{toldInto}
 use Rattle.promises.specs.Bench.{one, specId, markerOf}
 use Rattle.walk.specs.Divides.{Divides}
 use Rattle.walk.proofs.Means.{told, means}
-
--- whether each element is a byte
-abbrev small : List ℕ → Bool
-small [] = true
-small (b ∷ bs) = cond (ltb b 256) (small bs) false
-
--- a list that passes is bytes
-pub small-bytes : (s : List ℕ) → small s ≡ true → Bytes s
-small-bytes [] e = bytes-nil
-small-bytes (b ∷ bs) e = go (ltb b 256) refl e (small-bytes bs)
-  where
-    go : (t : Bool) → ltb b 256 ≡ t → cond t (small bs) false ≡ true → (small bs ≡ true → Bytes bs) → Bytes (b ∷ bs)
-    go true i e rest = bytes-cons b bs (ltb-true b 256 i) (rest e)
-    go false i e rest = never cc
 
 abbrev log : List ℕ
 log =

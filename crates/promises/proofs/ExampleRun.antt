@@ -1,64 +1,133 @@
--- A run of three calls, over any two holds of full size: an empty piece over the one; four zero bytes over the other, whose bytes may all
--- differ, since none is held yet; and the close, which refuses with 2 at 4. So the premise of proofs/Pieces.antt is met. Assumes nothing.
+-- Runs with real bytes, over any holds of full size: the premise of proofs/Pieces.antt is met.
+--   at-once     a log of one record, 36 bytes: they are fed, the record comes, and the log is closed
+--   cut-anew    a log of two such records: 10 bytes; then all the rest, over a hold whose other bytes have changed while the 10 are held, which gives
+--               the first record; then what is left of it, cut anew into 5 bytes and 31, which gives the second; then the close
+-- Assumes nothing.
 use Prim.Native.Nat.{ℕ, _≤_}
-use mathlib.Core.Path.{_≡_, refl, sym, ap}
-use mathlib.Core.List.{List, [], _∷_}
+use mathlib.Core.Path.{refl, sym}
+use mathlib.Core.Bool.{false}
+use mathlib.Core.List.{List, [], _∷_, _++_, append-nil}
 use native.Mathlib.Omega.{arith}
-use lib.ListN.{length, drop, length-drop}
-use Rattle.refusal.specs.declared.Why.{Why}
-use Rattle.refusal.specs.Limits.{logMost, holdFull}
-use Rattle.refusal.specs.Endings.{refusedWith}
+use lib.ListN.{length, take, drop, replicate, length-append}
+use Rattle.refusal.specs.declared.Ending.{Ending}
+use Rattle.refusal.specs.Limits.{holdFull}
 use Rattle.contents.proofs.Cases.{computing as dataComputing}
 use Rattle.record.proofs.Cases.{computing as recordComputing}
 use Rattle.pieces.specs.Taken.{taken}
-use Rattle.pieces.specs.Feed.{stops, wants, fresh}
+use Rattle.pieces.specs.Feed.{gives, stops, wants, Outcome}
 use Rattle.pieces.specs.Run.{fedCall, closeCall, rests, feeds, closes}
-use Rattle.pieces.proofs.FeedLaws.{InRange, feed-passed, close-passed}
-use Rattle.record.specs.Record.{judgeOf, openingShape}
+use Rattle.record.specs.declared.Kind.{Kind}
+use Rattle.record.specs.declared.Slot.{Slot}
 use Rattle.walker.specs.declared.Kept.{Kept}
 use Rattle.walker.specs.declared.Walker.{Walker}
-use Rattle.walker.specs.Walker.{walkerOf, walkerBy, replyBy, freshWalker, wrong, feedTo, closeTo}
-use Rattle.promises.specs.Runs.{Run}
+use Rattle.walker.specs.Walker.{freshWalker}
+use Rattle.promises.specs.Bench.{one}
+use Rattle.promises.specs.Runs.{Feeds, Closes, Run}
+use Rattle.promises.proofs.FeedCases.{walker, slotAt, feed-says, close-says}
 
-abbrev zeros : List ℕ
-zeros = 0 ∷ 0 ∷ 0 ∷ 0 ∷ []
+-- a separator of 36 bytes
+abbrev separator : List ℕ
+separator = one 4 (replicate 4 0)
 
--- a walker that holds four bytes
-abbrev four : Kept → Walker
-four kept = record { held = 4; total = 4; shape = openingShape; kept = kept }
+-- a walker that is open, at the log's start or behind its first record
+abbrev before : ℕ → ℕ → Walker
+before held total = walker held total Kind.First Kept.Open
+
+abbrev behind : ℕ → ℕ → Walker
+behind held total = walker held total Kind.Sha1 Kept.Open
+
+-- ---- all at once
 
 module _ (h₁ h₂ : List ℕ) (full₁ : holdFull ≤ length h₁) (full₂ : holdFull ≤ length h₂) where
-  -- the second hold after the second call
-  abbrev h₃ : List ℕ
-  h₃ = 0 ∷ 0 ∷ 0 ∷ 0 ∷ drop 4 h₂
+  -- the 36 bytes are taken, and stand at the hold's front
+  abbrev taken₁ : Outcome Walker Slot
+  taken₁ = record { answer = gives (slotAt 0 8 32); count = 36; walker = behind 0 36; hold = separator ++ drop 36 h₁ }
 
-  full₃ : holdFull ≤ length h₃
-  full₃ = omega (arith, full₂, length-drop 4 h₂)
+  abbrev closed₁ : Outcome Walker Slot
+  closed₁ = record { answer = stops (Ending.End 36 0); count = 0; walker = walker 0 36 Kind.Sha1 (Kept.Stopped (Ending.End 36 0)); hold = h₂ }
 
-  ranged : (w : Walker) (h : List ℕ) → holdFull ≤ length h → w .held ≤ 4 → w .total ≡ w .held → w .shape ≡ openingShape
-      → InRange holdFull logMost wrong (walkerOf w) h
-  ranged w h f i e s = record { size = f; fits = omega (arith, i); within = omega (arith, i, e); order = omega (arith, e); right = rw s refl }
+  feed₁ : Feeds freshWalker h₁ separator taken₁
+  unfolding dataComputing recordComputing taken
+  feed₁ = feed-says freshWalker h₁ full₁ (omega arith) (omega arith) refl refl separator (omega arith)
 
-  first : feedTo freshWalker h₁ [] ≡ record { answer = wants; count = 0; walker = fresh openingShape; hold = h₁ }
-  unfolding feedTo dataComputing recordComputing taken
-  first = feed-passed judgeOf holdFull logMost wrong (walkerOf freshWalker) h₁ (ranged freshWalker h₁ full₁ (omega arith) refl refl) [] refl (omega arith)
+  close₁ : Closes (behind 0 36) h₂ closed₁
+  unfolding dataComputing recordComputing
+  close₁ = (close-says (behind 0 36) h₂ full₂ (omega arith) (omega arith) refl refl, refl)
 
-  second : feedTo freshWalker h₂ zeros ≡ record { answer = wants; count = 4; walker = walkerOf (four Kept.Open); hold = h₃ }
-  unfolding feedTo dataComputing recordComputing taken
-  second = feed-passed judgeOf holdFull logMost wrong (walkerOf freshWalker) h₂ (ranged freshWalker h₂ full₂ (omega arith) refl refl) zeros refl (omega arith)
+  pub at-once : Run separator freshWalker h₁ (fedCall separator h₁ taken₁ ∷ closeCall h₂ closed₁ ∷ [])
+  unfolding dataComputing
+  at-once =
+      feeds {ended = false} ([], sym (append-nil separator)) (record { size = full₁; same = refl }) feed₁
+      (closes {ended = false} refl (record { size = full₂; same = refl }) close₁
+      rests)
 
-  third : closeTo (four Kept.Open) h₃
-      ≡ record { answer = stops (refusedWith Why.FieldCut 4); count = 0; walker = walkerOf (four (Kept.Stopped (refusedWith Why.FieldCut 4))); hold = h₃ }
-  unfolding closeTo dataComputing recordComputing
-  third = close-passed judgeOf holdFull logMost wrong (walkerOf (four Kept.Open)) h₃ (ranged (four Kept.Open) h₃ full₃ (omega arith) refl refl) refl
+-- ---- cut anew
 
-  pub run : Run ([] ∷ zeros ∷ []) freshWalker h₁
-      (fedCall [] h₁ (record { answer = wants; count = 0; walker = freshWalker; hold = h₁ })
-      ∷ fedCall zeros h₂ (record { answer = wants; count = 4; walker = four Kept.Open; hold = h₃ })
-      ∷ closeCall h₃ (record { answer = stops (refusedWith Why.FieldCut 4); count = 0; walker = four (Kept.Stopped (refusedWith Why.FieldCut 4)); hold = h₃ })
+-- the bytes of the second and the fourth hold past those held are any, and so are the first, the third and the last hold
+module _ (h₁ j₂ h₃ j₄ h₅ : List ℕ) (full₁ : holdFull ≤ length h₁) (full₂ : holdFull ≤ length j₂) (full₃ : holdFull ≤ length h₃)
+    (full₄ : holdFull ≤ length j₄) (full₅ : holdFull ≤ length h₅) where
+  abbrev two : List ℕ
+  two = separator ++ separator
+
+  abbrev h₂ : List ℕ
+  h₂ = take 10 separator ++ j₂
+
+  abbrev h₄ : List ℕ
+  h₄ = take 5 separator ++ j₄
+
+  size₂ : holdFull ≤ length h₂
+  size₂ = omega (arith, full₂, length-append (take 10 separator) j₂)
+
+  size₄ : holdFull ≤ length h₄
+  size₄ = omega (arith, full₄, length-append (take 5 separator) j₄)
+
+  abbrev ten : Outcome Walker Slot
+  ten = record { answer = wants; count = 10; walker = before 10 10; hold = take 10 separator ++ drop 10 h₁ }
+
+  abbrev first : Outcome Walker Slot
+  first = record { answer = gives (slotAt 0 8 32); count = 26; walker = behind 0 36; hold = separator ++ drop 26 j₂ }
+
+  abbrev five : Outcome Walker Slot
+  five = record { answer = wants; count = 5; walker = behind 5 41; hold = take 5 separator ++ drop 5 h₃ }
+
+  abbrev second : Outcome Walker Slot
+  second = record { answer = gives (slotAt 36 44 68); count = 31; walker = behind 0 72; hold = separator ++ drop 31 j₄ }
+
+  abbrev end : Outcome Walker Slot
+  end = record { answer = stops (Ending.End 72 0); count = 0; walker = walker 0 72 Kind.Sha1 (Kept.Stopped (Ending.End 72 0)); hold = h₅ }
+
+  feed-ten : Feeds freshWalker h₁ (take 10 separator) ten
+  unfolding dataComputing recordComputing taken
+  feed-ten = feed-says freshWalker h₁ full₁ (omega arith) (omega arith) refl refl (take 10 separator) (omega arith)
+
+  feed-first : Feeds (before 10 10) h₂ (drop 10 two) first
+  unfolding dataComputing recordComputing taken
+  feed-first = feed-says (before 10 10) h₂ size₂ (omega arith) (omega arith) refl refl (drop 10 two) (omega arith)
+
+  feed-five : Feeds (behind 0 36) h₃ (take 5 separator) five
+  unfolding dataComputing recordComputing taken
+  feed-five = feed-says (behind 0 36) h₃ full₃ (omega arith) (omega arith) refl refl (take 5 separator) (omega arith)
+
+  feed-second : Feeds (behind 5 41) h₄ (drop 5 separator) second
+  unfolding dataComputing recordComputing taken
+  feed-second = feed-says (behind 5 41) h₄ size₄ (omega arith) (omega arith) refl refl (drop 5 separator) (omega arith)
+
+  close-end : Closes (behind 0 72) h₅ end
+  unfolding dataComputing recordComputing
+  close-end = (close-says (behind 0 72) h₅ full₅ (omega arith) (omega arith) refl refl, refl)
+
+  pub cut-anew : Run two freshWalker h₁
+      (fedCall (take 10 separator) h₁ ten
+      ∷ fedCall (drop 10 two) h₂ first
+      ∷ fedCall (take 5 separator) h₃ five
+      ∷ fedCall (drop 5 separator) h₄ second
+      ∷ closeCall h₅ end
       ∷ [])
-  run =
-      feeds (record { size = full₁; same = refl }) (ap replyBy (sym first), ap (λ o. walkerBy (o .walker)) (sym first), ap (λ o. o .hold) (sym first))
-      (feeds (record { size = full₂; same = refl }) (ap replyBy (sym second), ap (λ o. walkerBy (o .walker)) (sym second), ap (λ o. o .hold) (sym second))
-      (closes (record { size = full₃; same = refl }) ((ap replyBy (sym third), ap (λ o. walkerBy (o .walker)) (sym third)), refl)
-      rests))
+  unfolding dataComputing
+  cut-anew =
+      feeds {ended = false} (drop 10 two, refl) (record { size = full₁; same = refl }) feed-ten
+      (feeds {ended = false} ([], refl) (record { size = size₂; same = refl }) feed-first
+      (feeds {ended = false} (drop 5 separator, refl) (record { size = full₃; same = refl }) feed-five
+      (feeds {ended = false} ([], refl) (record { size = size₄; same = refl }) feed-second
+      (closes {ended = false} refl (record { size = full₅; same = refl }) close-end
+      rests))))

@@ -1,9 +1,11 @@
 -- The theorems, and the laws that they rest on. Read first:
 --   Acceptance, Refusals, Slots   a walk into slots (demands 1 and 2)
---   Pieces, OwnAnswers            feeding by pieces (demand 3)
+--   ByTurns, Readers              the walk by turns; the readers on what a walk accepted
+--   Pieces, OwnAnswers, Range     feeding by pieces (demand 3)
+--   Joined                        both: what a walk into slots says and what any run tells
 --   OneOutcome                    each promise leaves one outcome
 --   ListingTurns                  the listing, turn by turn
---   Bench                         document 01's starred logs
+--   Bench, FeedCases              document 01's starred logs; feeds and closes written out
 --   Idle, IdleFeeds               programs that do not meet the promises
 --   Example, ExampleRun           the premises are met
 -- What leads there stands with what it is about: proofs/Explained.antt of `record`, proofs/Means.antt of `walk`, proofs/Promptness.antt and
@@ -14,10 +16,15 @@ pub mod Slots
 pub mod Bench
 pub mod Example
 pub mod Idle
+pub mod ByTurns
 pub mod RunLaws
+pub mod Readers
 pub mod Pieces
+pub mod Joined
 pub mod ExampleRun
 pub mod IdleFeeds
 pub mod OneOutcome
 pub mod ListingTurns
 pub mod OwnAnswers
+pub mod Range
+pub mod FeedCases

@@ -11,6 +11,7 @@ use mathlib.Core.Path.{_≡_, refl, sym, ap, _∙_}
 use mathlib.Core.List.{List, _++_}
 use lib.Dec.{leb}
 use lib.ListN.{length, take, drop, take-append-drop}
+use Rattle.numbers.specs.Number.{Bytes}
 use Rattle.record.specs.declared.Slot.{Slot}
 use Rattle.walk.specs.declared.Walked.{Walked}
 use Rattle.walk.specs.Fill.{toldInto, walkedBy, slotsBy, FillSays}
@@ -27,8 +28,8 @@ pub fill-one : (log : List ℕ) (old : List Slot) (r r′ : Walked) (slots slots
     → (r ≡ r′) × (slots ≡ slots′)
 fill-one log old r r′ slots slots′ a b = (a .0 ∙ sym (b .0), a .1 ∙ sym (b .1))
 
-pub fill-some : (log : List ℕ) (old : List Slot) → FillSays log old (walkedBy (toldInto (length old) log)) (slotsBy (toldInto (length old) log) old)
-fill-some log old = (refl, refl)
+pub fill-some : (log : List ℕ) → Bytes log → (old : List Slot) → FillSays log old (walkedBy (toldInto (length old) log)) (slotsBy (toldInto (length old) log) old)
+fill-some log is old = (refl, refl, is)
 
 pub table-one : (log : List ℕ) (old : List Slot) (k : ℕ) (r r′ : Walked) (slots slots′ : List Slot) → TableSays log old k r slots → TableSays log old k r′ slots′
     → (r ≡ r′) × (slots ≡ slots′)
@@ -36,10 +37,10 @@ table-one log old k r r′ slots slots′ (a, d) (b, e) =
     let (same, front) = fill-one log (take k old) r r′ (take k slots) (take k slots′) a b in
     (same, sym (take-append-drop k slots) ∙ ap (λ l. l ++ drop k slots) front ∙ ap (λ l. take k slots′ ++ l) (d ∙ sym e) ∙ take-append-drop k slots′)
 
-pub table-some : (log : List ℕ) (old : List Slot) (k : ℕ) → (r : Walked) × (slots : List Slot) × TableSays log old k r slots
-table-some log old k =
+pub table-some : (log : List ℕ) → Bytes log → (old : List Slot) (k : ℕ) → (r : Walked) × (slots : List Slot) × TableSays log old k r slots
+table-some log is old k =
     let t = toldInto (length (take k old)) log in
-    let f = fill-some log (take k old) in
+    let f = fill-some log is (take k old) in
     (walkedBy t, slotsBy t (take k old) ++ drop k old, table-says log old k _ _ (slots-kept log (take k old) _ _ f .2) f)
 
 pub feed-one : (w : Walker) (hold piece : List ℕ) (r r′ : Reply) (v v′ : Walker) (h h′ : List ℕ) → FeedSays w hold piece r v h → FeedSays w hold piece r′ v′ h′

@@ -2,15 +2,20 @@
 -- 12"): for every walker, made up or not, and every hold and piece.
 --   feed-own    `OfFeed` (specs/Answers.antt): a feed wants more, gives a record, or refuses with 3 to 11, 13 or 14; it never gives the end
 --   close-own   `OfClose`: a close gives a record or the end, or refuses with 2 to 11 or 14; it never wants more
+--   feed-never, close-never   what these leave out, by name
 -- Assumes nothing.
 use Prim.Native.Nat.{ℕ, zero, suc, _+_}
 use mathlib.Core.Path.{_≡_, refl, ap}
-use mathlib.Core.Logic.{inl, inr}
+use mathlib.Core.Logic.{_⊎_, inl, inr, ⊎-elim}
 use mathlib.Core.List.{List}
 use mathlib.Core.Option.{none}
 use lib.ListN.{length}
-use Rattle.numbers.proofs.ByCases.{split, test}
+use Rattle.numbers.proofs.ByCases.{split, test, never}
+use Rattle.refusal.specs.declared.Ending.{Ending}
 use Rattle.refusal.specs.declared.Refusal.{Refusal}
+use Rattle.refusal.specs.declared.Why.{Why}
+use Rattle.refusal.specs.Endings.{refusedWith}
+use Rattle.refusal.specs.Refusals.{Origin}
 use Rattle.refusal.specs.Limits.{logMost, holdFull}
 use Rattle.pieces.specs.Verdict.{Verdict, more, sound, refused}
 use Rattle.pieces.specs.Feed.{Outcome, outOfRange, feedOf, closeOf, fed, closed}
@@ -70,3 +75,40 @@ feed-own w hold piece reply w′ hold′ says k = rw (says .0) (feeds (walkerOf 
 pub close-own : (w : Walker) (hold : List ℕ) (reply : Reply) (w′ : Walker) → CloseSays w hold reply w′ → w .kept ≡ Kept.Open → OfClose (reply .answer)
 unfolding closeTo
 close-own w hold reply w′ says k = rw (says .0) (closes (walkerOf w) hold (ap keptOf k))
+
+-- ---- what that leaves out, by name
+
+abbrev refusing : Why → ℕ → Answer
+refusing why at = Answer.Stop (refusedWith why at)
+
+-- an origin that is none of a record's
+apart : {o : Origin} → (o ≡ Origin.reach) ⊎ (o ≡ Origin.id) ⊎ (o ≡ Origin.contents) → (o ≡ Origin.reach → ⊥) → (o ≡ Origin.id → ⊥) → (o ≡ Origin.contents → ⊥) → ⊥
+apart (inl e) a b c = a e
+apart (inr (inl e)) a b c = b e
+apart (inr (inr e)) a b c = c e
+
+not-long : OfRecord Why.LogTooLong → ⊥
+not-long h = apart h (λ e. never cc) (λ e. never cc) (λ e. never cc)
+
+not-slots : OfRecord Why.NoSlot → ⊥
+not-slots h = apart h (λ e. never cc) (λ e. never cc) (λ e. never cc)
+
+-- No feed gives the end, 1, 2 or 12 of its own,
+pub feed-never : (at tail : ℕ) → (OfFeed (Answer.Stop (Ending.End at tail)) → ⊥) × (OfFeed (refusing Why.LogTooLong at) → ⊥)
+    × (OfFeed (refusing Why.FieldCut at) → ⊥) × (OfFeed (refusing Why.NoSlot at) → ⊥)
+feed-never at tail = (
+  λ h. h,
+  λ h. ⊎-elim not-long (λ e. never cc) h,
+  λ h. ⊎-elim (λ (x : OfRecord Why.FieldCut). apart x (λ e. never cc) (λ e. never cc) (λ e. never cc)) (λ e. never cc) h,
+  λ h. ⊎-elim not-slots (λ e. never cc) h,
+)
+
+-- and no close wants more, or gives 1, 12 or 13.
+pub close-never : (at : ℕ) → (OfClose Answer.More → ⊥) × (OfClose (refusing Why.LogTooLong at) → ⊥) × (OfClose (refusing Why.NoSlot at) → ⊥)
+    × (OfClose (refusing Why.TotalTooLong at) → ⊥)
+close-never at = (
+  λ h. h,
+  λ h. ⊎-elim not-long (λ k. ⊎-elim (λ e. never cc) (λ e. never cc) k) h,
+  λ h. ⊎-elim not-slots (λ k. ⊎-elim (λ e. never cc) (λ e. never cc) k) h,
+  λ h. ⊎-elim (λ (x : OfRecord Why.TotalTooLong). apart x (λ e. never cc) (λ e. never cc) (λ e. never cc)) (λ k. ⊎-elim (λ e. never cc) (λ e. never cc) k) h,
+)

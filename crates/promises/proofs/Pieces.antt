@@ -1,13 +1,16 @@
--- Demand 3: cut it anywhere. Of every run of the code's calls (specs/Runs.antt) from a fresh walker over pieces that join to a log of at most
--- 65,536 bytes, empty ones included:
---   pieces-prompt     (a) to (e), of every call: `Prompt` of `pieces` (its fields say which is which)
---   pieces-repeat     (f) after the end or a refusal every later call of the run says it again, takes 0 and changes nothing,
---   pieces-shut       and so would any other call
---   pieces-agree      (g) the answers in order are the whole walk's records and its end or refusal
---   pieces-run        and however a log is cut there is a run that comes to a stop
+-- Demand 3: cut it anywhere. Of every run of the code's calls (specs/Runs.antt) from a fresh walker over a log of at most 65,536 bytes:
+--   pieces-prompt       (a) to (e), of every call: `Prompt` of `pieces` (its fields say which is which)
+--   pieces-repeat       (f) after the end or a refusal every later call of the run says it again, takes 0 and changes nothing,
+--   pieces-shut         and so would any other call
+--   pieces-agree        (g) once a call has stopped, the answers in order are the whole walk's records and its end or refusal
+--   pieces-close        a close that comes in a run stops
+--   pieces-closed       so (g) holds of every run with a close
+--   pieces-in-order     feeding a list of pieces in order, empty ones included, and then closing is such a run
+--   pieces-order-agree  and tells what the whole walk tells
+--   pieces-run          however a log is cut there are such calls
 -- The calls may be of the forms by value or of those where the walker lies. Assumes nothing.
 use Prim.Native.Nat.{ℕ, _≤_}
-use mathlib.Core.Path.{_≡_, refl, sym, _∙_}
+use mathlib.Core.Path.{_≡_, refl, sym, ap, _∙_}
 use mathlib.Core.Bool.{true}
 use mathlib.Core.List.{List, _∷_, _++_}
 use lib.ListN.{length}
@@ -17,19 +20,19 @@ use Rattle.refusal.specs.Limits.{logMost, pairsMost, holdFull}
 use Rattle.pieces.specs.Walk.{wholeWalk}
 use Rattle.pieces.specs.Feed.{stops, still, Outcome, Feedable}
 use Rattle.pieces.specs.Feed as F
-use Rattle.pieces.specs.Run.{join, outcomeOf, stopped, told, RunOf, seenAs}
+use Rattle.pieces.specs.Run.{join, closeCall, outcomeOf, stopped, told, RunOf, seenAs}
 use Rattle.pieces.specs.Prompt.{lentTo, Prompt}
 use Rattle.pieces.proofs.WalkLaws.{wholeWalk-fits}
 use Rattle.pieces.proofs.RunLaws.{callsSeen-append, callsSeen-told, callsSeen-stopped}
-use Rattle.pieces.proofs.Agreement.{agreement, runs-exist}
+use Rattle.pieces.proofs.Agreement.{agreement, close-ends, close-stops-run, order-agrees, order-exists}
 use Rattle.pieces.proofs.Promptness.{prompt, repeats, stays-shut}
 use Rattle.record.specs.declared.Slot.{Slot}
 use Rattle.record.specs.Record.{openingShape, judgeOf}
 use Rattle.record.proofs.RecordLaws.{record-steady, record-within, record-placed}
 use Rattle.walker.specs.declared.Walker.{Walker}
-use Rattle.walker.specs.Walker.{walkerOf, walkerBy, freshWalker, wrong}
-use Rattle.promises.specs.Runs.{Feeds, Closes, Call, Run, callOf, callsOf}
-use Rattle.promises.proofs.RunLaws.{run-of, run-by, callsBy, feed-outcome, close-outcome}
+use Rattle.walker.specs.Walker.{walkerOf, freshWalker, wrong}
+use Rattle.promises.specs.Runs.{Feeds, Closes, Call, Run, InOrder, callOf, callsOf}
+use Rattle.promises.proofs.RunLaws.{feed-outcome, close-outcome, run-of, order-run, order-of, callsBy, order-by}
 
 -- A log may be fed to the judge of a record: what follows a sound record counts no more pairs than the table holds, whatever the total.
 pub feedable : Feedable judgeOf holdFull wrong
@@ -41,46 +44,77 @@ feedable = record {
   grows = λ sh t u h ok. ok;
 }
 
-module _ (ps : List (List ℕ)) (short : length (join ps) ≤ logMost) (last : List ℕ) where
+module _ (log : List ℕ) (short : length log ≤ logMost) (last : List ℕ) where
   -- the run in the terms of `pieces`, at one of its calls
-  at-call : (bs : List Call) (c : Call) (cs : List Call) → Run ps freshWalker last (bs ++ (c ∷ cs))
-      → RunOf judgeOf holdFull logMost wrong ps (F.fresh openingShape) last (callsOf bs ++ (callOf c ∷ callsOf cs))
+  at-call : (bs : List Call) (c : Call) (cs : List Call) → Run log freshWalker last (bs ++ (c ∷ cs))
+      → RunOf judgeOf holdFull logMost wrong log (F.fresh openingShape) last (callsOf bs ++ (callOf c ∷ callsOf cs))
   at-call bs c cs r = rw (callsSeen-append walkerOf bs (c ∷ cs)) at (run-of r)
 
   -- (a) to (e): each record or early refusal comes in the call that brings the last byte it needs, with the number of bytes taken.
-  pub pieces-prompt : (bs : List Call) (c : Call) (cs : List Call) → Run ps freshWalker last (bs ++ (c ∷ cs))
-      → Prompt judgeOf openingShape (join ps) (callsOf bs) (callOf c)
+  pub pieces-prompt : (bs : List Call) (c : Call) (cs : List Call) → Run log freshWalker last (bs ++ (c ∷ cs))
+      → Prompt judgeOf openingShape log (callsOf bs) (callOf c)
   pieces-prompt bs c cs r =
-      prompt judgeOf holdFull logMost wrong feedable openingShape ps last (callsOf bs) (callOf c) (callsOf cs) refl short (at-call bs c cs r)
-
-  -- (g) Once a call has stopped, the records that the calls gave, in order, and the ending are those of the whole walk.
-  pub pieces-agree : (cs : List Call) → Run ps freshWalker last cs → stopped cs ≡ true → (e : Ending)
-      → told e cs ≡ wholeWalk judgeOf logMost openingShape (join ps)
-  pieces-agree cs r t e =
-      sym (callsSeen-told walkerOf e cs)
-      ∙ agreement judgeOf holdFull logMost wrong feedable openingShape ps last (callsOf cs) refl short (run-of r) (callsSeen-stopped walkerOf cs ∙ t) e
-      ∙ sym (wholeWalk-fits judgeOf logMost openingShape (join ps) short)
-
-  -- However the log is cut, and over any hold of full size, there is a run that comes to a stop.
-  pub pieces-run : holdFull ≤ length last → (cs : List Call) × Run ps freshWalker last cs × (stopped cs ≡ true)
-  pieces-run h =
-      let (cs, r, t) = runs-exist judgeOf holdFull logMost wrong feedable openingShape ps last refl short h in
-      (callsBy cs, run-by r, callsSeen-stopped walkerBy cs ∙ t)
+      prompt judgeOf holdFull logMost wrong feedable openingShape log last (callsOf bs) (callOf c) (callsOf cs) refl short (at-call bs c cs r)
 
   -- (f) After a call c that stopped with e, every later call d of the run answers e again, takes 0, and leaves the walker as c left it and the
   -- hold as it was lent.
   pub pieces-repeat : (bs : List Call) (c : Call) (cs : List Call) (d : Call) (ds : List Call) (e : Ending)
-      → Run ps freshWalker last (bs ++ (c ∷ (cs ++ (d ∷ ds)))) → outcomeOf (callOf c) .answer ≡ stops e
+      → Run log freshWalker last (bs ++ (c ∷ (cs ++ (d ∷ ds)))) → outcomeOf (callOf c) .answer ≡ stops e
       → outcomeOf (callOf d) ≡ record { answer = stops e; count = 0; walker = outcomeOf (callOf c) .walker; hold = lentTo (callOf d) }
   pieces-repeat bs c cs d ds e r a =
-      repeats judgeOf holdFull logMost wrong feedable openingShape ps last (callsOf bs) (callOf c) (callsOf cs) (callOf d) (callsOf ds) e refl short
+      repeats judgeOf holdFull logMost wrong feedable openingShape log last (callsOf bs) (callOf c) (callsOf cs) (callOf d) (callsOf ds) e refl short
       (rw (callsSeen-append walkerOf cs (d ∷ ds)) at (at-call bs c (cs ++ (d ∷ ds)) r)) a
 
-  -- And so would any feed, of any piece, and any close, over any hold of full size.
-  pub pieces-shut : (bs : List Call) (c : Call) (cs : List Call) (e : Ending) (w : Walker) → Run ps freshWalker last (bs ++ (c ∷ cs))
+  -- And so would any feed, of any piece, and any close, over any hold of full size, whatever its held bytes.
+  pub pieces-shut : (bs : List Call) (c : Call) (cs : List Call) (e : Ending) (w : Walker) → Run log freshWalker last (bs ++ (c ∷ cs))
       → outcomeOf (callOf c) .answer ≡ stops e → outcomeOf (callOf c) .walker ≡ walkerOf w → (hold : List ℕ) → holdFull ≤ length hold → (o : Outcome Walker Slot)
       → ((piece : List ℕ) → Feeds w hold piece o → seenAs walkerOf o ≡ still (walkerOf w) hold e)
       × (Closes w hold o → seenAs walkerOf o ≡ still (walkerOf w) hold e)
   pieces-shut bs c cs e w r a v hold h o =
-      let (f, g) = stays-shut judgeOf holdFull logMost wrong feedable openingShape ps last (callsOf bs) (callOf c) (callsOf cs) e refl short (at-call bs c cs r) a hold h in
+      let (f, g) = stays-shut judgeOf holdFull logMost wrong feedable openingShape log last (callsOf bs) (callOf c) (callsOf cs) e refl short (at-call bs c cs r) a hold h in
       (λ piece s. feed-outcome w hold piece o s ∙ (rw v at f) piece, λ s. close-outcome w hold o s ∙ (rw v at g))
+
+  -- (g) Once a call has stopped, the records that the calls gave, in order, and the ending are those of the whole walk.
+  pub pieces-agree : (cs : List Call) → Run log freshWalker last cs → stopped cs ≡ true → (e : Ending)
+      → told e cs ≡ wholeWalk judgeOf logMost openingShape log
+  pieces-agree cs r t e =
+      sym (callsSeen-told walkerOf e cs)
+      ∙ agreement judgeOf holdFull logMost wrong feedable openingShape log last (callsOf cs) refl short (run-of r) (callsSeen-stopped walkerOf cs ∙ t) e
+      ∙ sym (wholeWalk-fits judgeOf logMost openingShape log short)
+
+  -- Closed means stopped: a close that comes in a run gives the end or a refusal,
+  pub pieces-close : (bs : List Call) (hold : List ℕ) (o : Outcome Walker Slot) (cs : List Call) → Run log freshWalker last (bs ++ (closeCall hold o ∷ cs))
+      → (e : Ending) × (o .answer ≡ stops e)
+  pieces-close bs hold o cs r =
+      close-ends judgeOf holdFull logMost wrong feedable openingShape log last (callsOf bs) hold (seenAs walkerOf o) (callsOf cs) refl short
+      (at-call bs (closeCall hold o) cs r)
+
+  -- and so of every run with a close, whether or not a call stopped before it.
+  pub pieces-closed : (bs : List Call) (hold : List ℕ) (o : Outcome Walker Slot) (cs : List Call) → Run log freshWalker last (bs ++ (closeCall hold o ∷ cs))
+      → (e : Ending) → told e (bs ++ (closeCall hold o ∷ cs)) ≡ wholeWalk judgeOf logMost openingShape log
+  pieces-closed bs hold o cs r =
+      pieces-agree (bs ++ (closeCall hold o ∷ cs)) r
+      (sym (callsSeen-stopped walkerOf (bs ++ (closeCall hold o ∷ cs)))
+      ∙ ap stopped (callsSeen-append walkerOf bs (closeCall hold o ∷ cs))
+      ∙ close-stops-run judgeOf holdFull logMost wrong feedable openingShape log last (callsOf bs) hold (seenAs walkerOf o) (callsOf cs) refl short
+      (at-call bs (closeCall hold o) cs r))
+
+-- ---- a list of pieces, fed in order
+
+module _ (ps : List (List ℕ)) (short : length (join ps) ≤ logMost) (last : List ℕ) where
+  -- Feeding the pieces in order, and then closing, is a run of the log that they make: all of the above holds of it.
+  pub pieces-in-order : (cs : List Call) → InOrder ps freshWalker last cs → Run (join ps) freshWalker last cs
+  pieces-in-order cs r = order-run r
+
+  -- It tells what the whole walk tells.
+  pub pieces-order-agree : (cs : List Call) → InOrder ps freshWalker last cs → (e : Ending) → told e cs ≡ wholeWalk judgeOf logMost openingShape (join ps)
+  pieces-order-agree cs r e =
+      sym (callsSeen-told walkerOf e cs)
+      ∙ order-agrees judgeOf holdFull logMost wrong feedable openingShape ps last (callsOf cs) refl short (order-of r) e
+      ∙ sym (wholeWalk-fits judgeOf logMost openingShape (join ps) short)
+
+  -- However the log is cut, and over any first hold of full size, there are such calls.
+  pub pieces-run : holdFull ≤ length last → (cs : List Call) × InOrder ps freshWalker last cs
+  pieces-run h =
+      let (cs, r) = order-exists judgeOf holdFull logMost wrong feedable openingShape ps last refl short h in
+      (callsBy cs, order-by r)

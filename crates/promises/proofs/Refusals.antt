@@ -3,40 +3,29 @@
 -- records that begins it.
 --   refused-too-long (1), refused-cut (2), refused-too-far (3), refused-unknown (4), refused-unsound (5 to 11), refused-no-slot (12)
 --   longest           no chain of well-formed records that begins the log goes further
---   unsound-data      data that are refused hold nothing
 --   never-of-feeding  13 and 14 are never answers of a walk
 -- Assumes nothing.
 use Prim.Native.Nat.{ℕ, _≤_, _<_}
 use mathlib.Core.Path.{_≡_, sym, ap, _∙_, subst}
-use mathlib.Core.Bool.{Bool, true, false}
 use mathlib.Core.List.{List, [], _++_}
 use mathlib.Core.Logic.{_↔_}
 use lib.ListN.{length}
-use Rattle.numbers.proofs.ByCases.{never}
-use Rattle.numbers.specs.Number.{Bytes}
 use Rattle.refusal.specs.declared.Why.{Why}
 use Rattle.refusal.specs.Limits.{logMost}
-use Rattle.refusal.specs.Tests.{refusalOf}
 use Rattle.refusal.specs.Endings.{refusedWith}
 use Rattle.refusal.proofs.RefusalLaws.{OfContents}
-use Rattle.event.specs.Types.{typeOf}
-use Rattle.contents.specs.declared.Contents.{Contents}
-use Rattle.contents.specs.declared.Judged.{Judged}
-use Rattle.contents.proofs.HoldsLaws.{contents-holds, marker-holds}
 use Rattle.pieces.specs.Walk.{Told, walk}
 use Rattle.record.specs.declared.Shape.{Shape}
 use Rattle.record.specs.declared.Slot.{Slot}
 use Rattle.record.specs.Record.{judgeOf}
 use Rattle.walk.specs.declared.Walked.{Walked}
 use Rattle.walk.specs.Fill.{FillSays}
-use Rattle.record.specs.Whole.{ContainsAs}
-use Rattle.record.specs.Met.{judgedOf}
 use Rattle.walk.specs.Divides.{Begins, Broken, Crowded, MeansBy}
 use Rattle.walk.proofs.Means.{begun, stops-walked}
 use Rattle.promises.specs.Answers.{Filled, Breaks}
 use Rattle.promises.proofs.Acceptance.{filled}
 
-module _ (log : List ℕ) (is : Bytes log) (old : List Slot) (r : Walked) (slots : List Slot) (says : FillSays log old r slots) (rs : List Slot) (at : ℕ) where
+module _ (log : List ℕ) (old : List Slot) (r : Walked) (slots : List Slot) (says : FillSays log old r slots) (rs : List Slot) (at : ℕ) where
   abbrev Refused : Why → Type 0
   Refused why = Filled r slots rs (refusedWith why at)
 
@@ -45,46 +34,39 @@ module _ (log : List ℕ) (is : Bytes log) (old : List Slot) (r : Walked) (slots
 
   -- 1: the log has more than 65,536 bytes. Nothing was looked at, and the offset is 65,536.
   pub refused-too-long : Refused Why.LogTooLong ↔ ((logMost < length log) × (rs ≡ []) × (at ≡ logMost))
-  refused-too-long = filled log is old r slots says rs (refusedWith Why.LogTooLong at)
+  refused-too-long = filled log old r slots says rs (refusedWith Why.LogTooLong at)
 
   -- 2: after rs the fields of a record are whole up to one, not the first, that ends within 32,768 of the record's start and past the log.
   pub refused-cut : Refused Why.FieldCut ↔ Broke Why.FieldCut
-  refused-cut = filled log is old r slots says rs (refusedWith Why.FieldCut at)
+  refused-cut = filled log old r slots says rs (refusedWith Why.FieldCut at)
 
   -- 3: they are whole up to one that ends more than 32,768 past the record's start.
   pub refused-too-far : Refused Why.FieldTooFar ↔ Broke Why.FieldTooFar
-  refused-too-far = filled log is old r slots says rs (refusedWith Why.FieldTooFar at)
+  refused-too-far = filled log old r slots says rs (refusedWith Why.FieldTooFar at)
 
   -- 4: they are whole up to and with an id that is unknown or undeclared.
   pub refused-unknown : Refused Why.AlgorithmUnknown ↔ Broke Why.AlgorithmUnknown
-  refused-unknown = filled log is old r slots says rs (refusedWith Why.AlgorithmUnknown at)
+  refused-unknown = filled log old r slots says rs (refusedWith Why.AlgorithmUnknown at)
 
-  -- 5 to 11: after rs follows a whole record, and its data are refused so.
+  -- 5 to 11: after rs follows a whole record, and this is what is wrong with its data, and where.
   pub refused-unsound : (why : Why) → OfContents why → Refused why ↔ Broke why
-  refused-unsound why h = subst (λ o. Refused why ↔ MeansBy (length old) log rs o why at) h (filled log is old r slots says rs (refusedWith why at))
+  refused-unsound why h = subst (λ o. Refused why ↔ MeansBy (length old) log rs o why at) h (filled log old r slots says rs (refusedWith why at))
 
   -- 12: every slot was filled, and after rs another well-formed record starts at the offset.
   pub refused-no-slot : Refused Why.NoSlot ↔ ((length log ≤ logMost) × (length rs ≡ length old) × Crowded log rs at)
-  refused-no-slot = filled log is old r slots says rs (refusedWith Why.NoSlot at)
+  refused-no-slot = filled log old r slots says rs (refusedWith Why.NoSlot at)
 
   -- 13 and 14 belong to feeding.
   pub never-of-feeding : (Refused Why.TotalTooLong → ⊥) × (Refused Why.OutOfRange → ⊥)
   never-of-feeding =
-      (filled log is old r slots says rs (refusedWith Why.TotalTooLong at) .0, filled log is old r slots says rs (refusedWith Why.OutOfRange at) .0)
+      (filled log old r slots says rs (refusedWith Why.TotalTooLong at) .0, filled log old r slots says rs (refusedWith Why.OutOfRange at) .0)
 
 -- Of a log that is refused for itself the records handed out are the longest chain that begins it.
-pub longest : (log : List ℕ) → Bytes log → (rs : List Slot) (why : Why) (at : ℕ) → Broken log rs why at
-    → (rs′ : List Slot) (front rest : List ℕ) (last : Shape) → Begins log rs′ front rest last → (later : List Slot) × (rs ≡ rs′ ++ later)
-longest log is rs why at b rs′ front rest last d =
+pub longest : (log : List ℕ) (old : List Slot) (r : Walked) (slots : List Slot) → FillSays log old r slots → (rs : List Slot) (why : Why) (at : ℕ)
+    → Broken log rs why at → (rs′ : List Slot) (front rest : List ℕ) (last : Shape) → Begins log rs′ front rest last → (later : List Slot) × (rs ≡ rs′ ++ later)
+longest log old r slots says rs why at b rs′ front rest last d =
+    let is = says .2 in
     let walked = stops-walked log is 0 (b .front) (b .rest) rs (b .last) (refusedWith why at) (b .begins .whole) (b .begins .chain) (b .refuses) in (
       walk judgeOf last (length front) rest .records,
       ap (λ (t : Told Slot). t .records) (sym walked ∙ begun log is 0 front rest rs′ last (d .whole) (d .chain)),
     )
-
--- Data that are refused are not sound: they hold no contents at all.
-pub unsound-data : (b : Bool) (sh next : Shape) (event : ℕ) (body : List ℕ) (place : ℕ) (why : Why) (at : ℕ) (c : Contents) → Bytes body
-    → judgedOf b event body place ≡ Judged.Refused (refusalOf why at) → ContainsAs b sh event body place c next → ⊥
-unsound-data true sh next event body place why at c is e (pairs, m, n) =
-    let j = marker-holds body is place c pairs .1 m .0 in never cc
-unsound-data false sh next event body place why at c is e (h, n) =
-    let j = contents-holds (typeOf event) body is place c .1 h in never cc

@@ -1,20 +1,23 @@
 -- Runs of the code (specs/Runs.antt) and runs of `pieces`, whose theorems so speak of the code.
 --   feed-outcome, close-outcome   what a call of the code says is what the definition says
---   run-of                        a run of the code is one of `pieces`
---   callsBy, run-by               and the other way round
+--   run-of, order-of              a run of the code is one of `pieces`, and what feeds pieces in order does so there
+--   order-run                     feeding pieces in order is a run
+--   callsBy, order-by             what feeds pieces in order in `pieces` does so in the code
 -- Assumes nothing.
-use Prim.Native.Nat.{ℕ}
+use Prim.Native.Nat.{ℕ, _≤_}
 use mathlib.Core.Path.{_≡_, refl, sym, ap, _∙_}
 use mathlib.Core.Option.{Option, none, some}
 use mathlib.Core.List.{List}
+use lib.ListN.{length}
 use Rattle.refusal.specs.declared.Ending.{Ending}
 use Rattle.refusal.specs.Limits.{logMost, holdFull}
 use Rattle.pieces.specs.Feed.{gives, stops, wants, Outcome, feedOf, closeOf}
 use Rattle.pieces.specs.Feed as F
-use Rattle.pieces.specs.Run.{RunOf, seenAs, callsSeen}
+use Rattle.pieces.specs.Run.{join, RunOf, InOrderOf, seenAs, callsSeen}
 use Rattle.pieces.specs.Run as R
-use Rattle.pieces.proofs.FeedLaws.{close-still}
-use Rattle.pieces.proofs.RunLaws.{run-seen}
+use Rattle.pieces.proofs.FeedLaws.{feed-count, feed-all, close-still}
+use Rattle.pieces.proofs.RunLaws.{calls-seen, order-seen}
+use Rattle.pieces.proofs.Agreement.{order-calls}
 use Rattle.record.specs.declared.Shape.{Shape}
 use Rattle.record.specs.declared.Slot.{Slot}
 use Rattle.record.specs.Record.{judgeOf}
@@ -22,7 +25,7 @@ use Rattle.walker.specs.declared.Answer.{Answer}
 use Rattle.walker.specs.declared.Reply.{Reply}
 use Rattle.walker.specs.declared.Walker.{Walker}
 use Rattle.walker.specs.Walker.{keptOf, keptBy, walkerOf, walkerBy, answerBy, replyBy, wrong, feedTo, closeTo}
-use Rattle.promises.specs.Runs.{Feeds, Closes, Call, Run, callsOf}
+use Rattle.promises.specs.Runs.{Feeds, Closes, Call, Run, InOrder, callsOf}
 
 -- ---- there and back
 
@@ -68,11 +71,28 @@ close-outcome w hold o ((r, v), h) =
     outcome-told (closeTo w hold) o (r, v, h ∙ sym (close-still judgeOf holdFull logMost wrong (walkerOf w) hold .1))
 
 -- The calls of the code are a run of `pieces`.
-pub run-of : {ps : List (List ℕ)} {w : Walker} {last : List ℕ} {cs : List Call} → Run ps w last cs
-    → RunOf judgeOf holdFull logMost wrong ps (walkerOf w) last (callsOf cs)
-run-of r = run-seen walkerOf holdFull _ _ _ _ _ _ (λ w. refl) feed-outcome close-outcome r
+pub run-of : {log : List ℕ} {w : Walker} {last : List ℕ} {cs : List Call} → Run log w last cs
+    → RunOf judgeOf holdFull logMost wrong log (walkerOf w) last (callsOf cs)
+run-of r = calls-seen walkerOf holdFull _ _ _ _ _ _ (λ w. refl) feed-outcome close-outcome r
 
--- ---- and a run of `pieces` is one of the code
+pub order-of : {ps : List (List ℕ)} {w : Walker} {last : List ℕ} {cs : List Call} → InOrder ps w last cs
+    → InOrderOf judgeOf holdFull logMost wrong ps (walkerOf w) last (callsOf cs)
+order-of r = order-seen walkerOf holdFull _ _ _ _ _ _ (λ w. refl) feed-outcome close-outcome r
+
+-- Feeding pieces in order is a run: no feed takes more than there is, and one that wants more has taken all.
+pub order-run : {ps : List (List ℕ)} {w : Walker} {last : List ℕ} {cs : List Call} → InOrder ps w last cs → Run (join ps) w last cs
+order-run r = order-calls holdFull _ _ _ few all (λ e. refl) r
+  where
+    few : (w : Walker) (hold p : List ℕ) (o : Outcome Walker Slot) → Feeds w hold p o → o .count ≤ length p
+    few w hold p o f =
+        rw (sym (ap (λ x. x .count) (feed-outcome w hold p o f))) at (feed-count judgeOf holdFull logMost wrong (walkerOf w) hold p)
+
+    all : (w : Walker) (hold p : List ℕ) (o : Outcome Walker Slot) → Feeds w hold p o → o .answer ≡ wants → o .count ≡ length p
+    all w hold p o f a =
+        let same = feed-outcome w hold p o f in
+        ap (λ x. x .count) same ∙ feed-all judgeOf holdFull logMost wrong (walkerOf w) hold p (sym (ap (λ x. x .answer) same) ∙ a)
+
+-- ---- and feeding in order, in `pieces`, is so in the code
 
 abbrev pub callsBy : List (R.Call (F.Walker Shape) Slot) → List Call
 callsBy cs = callsSeen walkerBy cs
@@ -91,6 +111,6 @@ close-by w hold o e =
     let same : o ≡ closeTo (walkerBy w) hold = e ∙ ap (λ v. closeOf judgeOf holdFull logMost wrong v hold) (sym (walker-back w)) in
     ((ap replyBy same, ap (λ x. walkerBy (x .walker)) same), ap (λ x. x .hold) e ∙ close-still judgeOf holdFull logMost wrong w hold .1)
 
-pub run-by : {ps : List (List ℕ)} {w : F.Walker Shape} {last : List ℕ} {cs : List (R.Call (F.Walker Shape) Slot)} → RunOf judgeOf holdFull logMost wrong ps w last cs
-    → Run ps (walkerBy w) last (callsBy cs)
-run-by r = run-seen walkerBy holdFull _ _ _ _ _ _ (λ w. refl) feed-by close-by r
+pub order-by : {ps : List (List ℕ)} {w : F.Walker Shape} {last : List ℕ} {cs : List (R.Call (F.Walker Shape) Slot)}
+    → InOrderOf judgeOf holdFull logMost wrong ps w last cs → InOrder ps (walkerBy w) last (callsBy cs)
+order-by r = order-seen walkerBy holdFull _ _ _ _ _ _ (λ w. refl) feed-by close-by r

@@ -1,9 +1,11 @@
--- The calls that a caller makes of a walker to feed a list of pieces in order and then close (document 01, demand 3), as the code makes them: runs,
--- as `Run` of `pieces` defines them, of the code's walker and the code's promises.
---   Feeds, Closes    `FeedSays` and `CloseSays` of `walker`, of an outcome. The forms by value and the forms where the walker lies share them, so a
---                    run may use either form at each call. A close has the hold to read only
---   Calls, Run       the calls, and a run
---   callOf, callsOf  the same calls in the terms of `pieces`, over which `Prompt` is stated
+-- The calls that any caller makes of a walker to feed a log and then close (document 01, demand 3), as the code makes them: runs, as `Run` of
+-- `pieces` defines them, of the code's walker and the code's promises.
+--   Feeds, Closes       `FeedSays` and `CloseSays` of `walker`, of an outcome. The forms by value and the forms where the walker lies share them, so a
+--                       run may use either form at each call. A close has the hold to read only
+--   Run log w last cs   a run: each feed is given any beginning of the log's bytes not taken yet, a close comes when none are left, after a stop any
+--                       call may follow, and each hold has full size and agrees with the last on the held bytes only
+--   InOrder ps w last cs   the calls that feed a list of pieces in order, what is left of a piece again after a record, and then close
+--   callOf, callsOf     the same calls in the terms of `pieces`, over which `Prompt` is stated
 -- Assumes nothing.
 use Prim.Native.Nat.{ℕ}
 use mathlib.Core.Path.{_≡_}
@@ -27,8 +29,14 @@ Closes w hold o = CloseSays w hold (replyBy o) (o .walker) × (o .hold ≡ hold)
 abbrev pub Call : Type 0
 Call = R.Call Walker Slot
 
-abbrev pub Run : List (List ℕ) → Walker → List ℕ → List Call → Type 0
-Run ps w last cs = R.Run holdFull (λ (v : Walker). v .held) Feeds Closes ps w last cs
+abbrev pub heldBy : Walker → ℕ
+heldBy w = w .held
+
+abbrev pub Run : List ℕ → Walker → List ℕ → List Call → Type 0
+Run log w last cs = R.Run holdFull heldBy Feeds Closes log w last cs
+
+abbrev pub InOrder : List (List ℕ) → Walker → List ℕ → List Call → Type 0
+InOrder ps w last cs = R.InOrder holdFull heldBy Feeds Closes ps w last cs
 
 abbrev pub callOf : Call → R.Call (F.Walker Shape) Slot
 callOf c = callSeen walkerOf c

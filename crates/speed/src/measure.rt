@@ -2,7 +2,7 @@
 use crate::sum;
 use numbers::Span;
 use record::Slot;
-use walk::Turn;
+use record::Turn;
 use walker::Answer;
 use walker::Kept;
 use walker::Walker;

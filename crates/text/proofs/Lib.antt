@@ -1,6 +1,7 @@
 -- The laws of text that other crates cite.
 pub mod Cases
 pub mod ClassLaws
+pub mod FaultLaws
 pub mod RowLaws
 pub mod SequenceLaws
 pub mod Table

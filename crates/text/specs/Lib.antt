@@ -4,3 +4,4 @@ pub mod Unicode
 pub mod Text
 pub mod Classes
 pub mod Sequences
+pub mod Faults
