@@ -1,11 +1,11 @@
 #!/usr/bin/env python3
-"""Holds the program bench to the model of document 01 over random commands.
+"""Holds the program bench to the model of the documents over random commands.
 
     tools/bench_compare.py PROGRAM RUNS [SEED]
 
 PROGRAM is the command, in one string, that runs crate bench. A run is some forty commands and, at its end, often one that is bad:
 logs made of the records of tools/bench_sample.py, whole, damaged, cut and mixed; the same in pieces, to walkers that are fresh,
-fed or made up; paths, GPT data and texts, damaged. The lines are compared whole. Two calls with one SEED (default 1) try the same.
+fed or made up; paths, GPT data and texts, damaged; entries to write, from states that are fresh, written or made up. The lines are compared whole. Two calls with one SEED (default 1) try the same.
 """
 import collections
 import random
@@ -13,8 +13,9 @@ import shlex
 import sys
 
 import bench_sample as sample
-from bench_model import Bench
-from maker import C, F, G, H, L, N, P, U, W, X, agile, c, edited, f, u16, u32, variable, wide
+import model
+from bench_model import REFUSALS, Bench
+from maker import C, E, F, G, H, L, M, N, P, S, U, W, X, agile, c, edited, f, listed, u16, u32, variable, wide
 from oracle import run
 
 SIZES = {4: 20, 0xB: 32, 0xC: 48}
@@ -24,6 +25,8 @@ SOUND = [
     (0x800000E0, variable("db", b"x")), (0x80000003, sample.image(sample.PATH, b"x")), (0x80000005, sample.image()),
     (0x80000006, sample.TWO_ENTRIES), (0x80000006, sample.header() + bytes(40)), (0xFFFFFFFF, b"?"),
 ]
+
+SOME = model.Entry(0, 0, 5, b"", b"")
 
 
 def damaged(r, b):
@@ -57,7 +60,7 @@ def a_walker(r):
     pairs = [(r.choice((4, 0xB)), r.choice((0, 4, 20, 32))) for _ in range(r.randrange(4))]
     kept = r.choice((0, 0, 0, 0, 1, 2))
     total = max(0, r.choice((held, held, held + 100, 65535, 65536, 65537, held - 1)))
-    return W(held, total, r.randrange(3), pairs, r.choice((None, None, 2, 16, 17)), kept, r.randrange(1, 15), r.randrange(99), 3)
+    return W(held, total, r.randrange(3), pairs, r.choice((None, None, 2, 16, 17)), kept, r.choice(REFUSALS), r.randrange(99), 3)
 
 
 def piece_of(r, log):
@@ -78,6 +81,27 @@ def fed(r):
     return out + [r.choice((C, c)) for _ in range(r.randrange(3))]
 
 
+def an_entry(r, is_agile):
+    """Most often of the right form and with digests as long as those of MARKER's ids; its data damaged at times."""
+    form = is_agile if r.randrange(20) else 1 - is_agile
+    ids = r.choices((4, 0xB, 0xC, 0xD, 0x12), (90, 90, 90, 3, 3), k=r.choice((0, 1, 2, 3, 5))) if form else [4] * r.choice((1,) * 20 + (0, 2))
+    digests = listed(*((id, bytes(SIZES.get(id, 0) + (r.randrange(60) == 0))) for id in ids))
+    event, data = r.choice(SOUND)
+    return model.Entry(form, r.randrange(24), event, edited(r, digests) if r.randrange(15) == 0 else digests, damaged(r, data))
+
+
+def written(r):
+    """A state and some entries; the first is often a marker."""
+    kind, table = r.randrange(3), [(id, r.choice((size, size, 0, 1, 65535))) for id, size in r.choices(list(SIZES.items()), k=r.randrange(17))]
+    is_made, is_agile = r.random() < 0.3, r.random() < 0.6
+    out = [M(kind, table, r.choice((None, None, 2, 16, 17, (1 << 64) - 1))) if is_made else S]
+    if is_agile and not is_made:
+        data = damaged(r, sample.spec_id(list(SIZES.items()) * r.choice((1,) * 9 + (6,)), b"v" * r.randrange(3)))
+        out.append(E(model.Entry(0, 0, 3, listed((4, bytes(20))), data), 200))
+    agile_next = kind == 2 if is_made else is_agile
+    return out + [E(an_entry(r, int(agile_next)), r.choice((0, 32, 37, 100, 400, 2000, 65536))) for _ in range(r.randrange(8))]
+
+
 def read(r):
     path, table = damaged(r, sample.PATH), damaged(r, sample.TWO_ENTRIES + bytes(r.choice((0, 1, 2, 128))))
     text = r.choice((b"abc\0", "Ünï€𝄞\0".encode(), wide("𝄞a\0"), b"\xED\x9F\xBF", u16(0xD800) + u16(0xDFFF)))
@@ -87,9 +111,9 @@ def read(r):
 def bad(r):
     """A command that is unknown, cut short, or has a field outside its values; sometimes none."""
     return r.choice((
-        b"", b"Z", b"\0", L(65, b""), L(64, b"abc")[:-1], L(64, b"")[:-1], W()[:-1], W(kind=3), W(kept=3), W(kept=2), W(kept=2, number=15),
+        b"", b"Z", b"\0", L(65, b""), L(64, b"abc")[:-1], L(64, b"")[:-1], W()[:-1], W(kind=3), W(kept=3), W(kept=2), W(kept=2, number=15), W(kept=2, number=19),
         H(65537, b""), H(2, b"abc"), H(9, b"abc")[:-1], F(b"abc")[:-2], f(b"abc")[:3], F(bytes(131073)), P(0, b"abc")[:-1],
-        G(0, b"abc")[:-1], U(b"abc")[:-1], X(b"abc")[:-1], b"P", b"U" + u32(0xFFFFFFFF), F(bytes(131072)), U(bytes(131072)),
+        G(0, b"abc")[:-1], M()[:-1], M(kind=3), E(SOME, 65537), E(SOME, 9)[:-1], E(SOME._replace(form=2), 9), E(SOME._replace(data=bytes(131073)), 9), U(b"abc")[:-1], X(b"abc")[:-1], b"P", b"U" + u32(0xFFFFFFFF), F(bytes(131072)), U(bytes(131072)),
     ))
 
 
@@ -99,7 +123,7 @@ def main():
     program, runs, r = shlex.split(sys.argv[1]), int(sys.argv[2]), random.Random(int(sys.argv[3]) if len(sys.argv) > 3 else 1)
     seen, differ = collections.Counter(), 0
     for number in range(runs):
-        commands = b"".join([L(r.randrange(65), a_log(r)) for _ in range(5)] + fed(r) + read(r) + fed(r)) + bad(r)
+        commands = b"".join([L(r.randrange(65), a_log(r)) for _ in range(5)] + fed(r) + read(r) + fed(r) + written(r) + written(r)) + bad(r)
         ours, theirs = run(program, commands).splitlines(), list(Bench().run(commands))
         seen.update(int(line.split("refused ")[1].split()[0]) for line in theirs if "refused " in line)
         seen["lines"] += len(theirs)

@@ -1,5 +1,5 @@
 #!/usr/bin/env python3
-"""Says what the program bench is to write, by the model of document 01.
+"""Says what the program bench is to write, by the model of the documents.
 
     tools/bench_model.py < commands > lines
 
@@ -8,9 +8,10 @@ The commands and the lines are those of crates/bench/README.md; what they answer
 import sys
 
 import model
-from maker import COUNTED_MOST, SLOTS
+from maker import COUNTED_MOST, ROOM_MOST, SLOTS
 
 HOLD_MOST = 65536
+REFUSALS = (*range(1, 15), 16, 17, 18)
 
 
 class Bad(Exception):
@@ -21,12 +22,25 @@ def walk_lines(slots, records, ending):
     return [f"walk {len(records)} {ending}", *records, f"kept {slots - len(records)}"]
 
 
+def weighed(b):
+    """The sum of bytes, each times its place counted from 1."""
+    return sum(x * i for i, x in enumerate(b, 1)) % 2 ** 32
+
+
+def pairs_lines(shape, is_marker):
+    return ["pairs " + " ".join(f"{id}:{size}" for id, size in shape.table)] if is_marker else []
+
+
 def fed_lines(walker, taken, answer, hold_sum, is_marker):
     """The lines of a feed or a close; the walker is that after the call."""
-    shape, lines = walker.shape, [f"hold {hold_sum % 2 ** 32}"]
-    if is_marker:
-        lines.append("pairs " + " ".join(f"{id}:{size}" for id, size in shape.table))
-    return [f"fed {taken} held {walker.held} total {walker.total} kind {shape.kind} count {shape.count} {answer}", *lines]
+    shape = walker.shape
+    return [f"fed {taken} held {walker.held} total {walker.total} kind {shape.kind} count {shape.count} {answer}", f"hold {hold_sum % 2 ** 32}",
+            *pairs_lines(shape, is_marker)]
+
+
+def pattern(n):
+    """What a buffer of so many bytes has before it is written to."""
+    return bytes((7 * i + 3) % 251 for i in range(n))
 
 
 def item(items, index, data):
@@ -46,10 +60,11 @@ def text(length, data):
 
 
 class Bench:
-    """A walker and a hold, and what the commands do with them. `run` may be called again, with more commands."""
+    """A walker and a hold, a writer's state, and what the commands do with them. `run` may be called again, with more commands."""
 
     def __init__(self):
         self.fresh()
+        self.written = model.Shape()
 
     def fresh(self):
         self.walker, self.hold = model.Walker(), bytearray(model.RECORD_MOST)
@@ -70,14 +85,17 @@ class Bench:
     def counted(self):
         return self.take(self.number(4, COUNTED_MOST))
 
+    def shape(self):
+        kind, count = self.number(1, 2), self.number(8)
+        return model.Shape(kind, [(self.number(2), self.number(2)) for _ in range(16)], count)
+
     def made_up(self):
-        held, total, kind, count = self.number(8), self.number(8), self.number(1, 2), self.number(8)
-        table = [(self.number(2), self.number(2)) for _ in range(16)]
+        held, total, shape = self.number(8), self.number(8), self.shape()
         kept, number, a, b = self.number(1, 2), self.number(1), self.number(8), self.number(8)
-        if kept == 2 and not 1 <= number <= 14:
+        if kept == 2 and number not in REFUSALS:
             raise Bad
         answer = (None, model.closed(a, 0, b), model.refused(number, a))[kept]
-        self.walker = model.Walker(held, total, model.Shape(kind, table, count), answer)
+        self.walker = model.Walker(held, total, shape, answer)
         return []
 
     def sized(self):
@@ -86,8 +104,25 @@ class Bench:
         return []
 
     def fed(self, taken, answer):
-        hold_sum = sum(b * i for i, b in enumerate(self.hold, 1))
-        return fed_lines(self.walker, taken, answer, hold_sum, answer.inside is not None and answer.inside.word == "marker")
+        return fed_lines(self.walker, taken, answer, weighed(self.hold), answer.inside is not None and answer.inside.word == "marker")
+
+    def wrote(self):
+        form, register, event, room = self.number(1, 1), self.number(4), self.number(4), self.number(4, ROOM_MOST)
+        entry, was = model.Entry(form, register, event, self.counted(), self.counted()), self.written.kind
+        answer, self.written, buffer = model.write(self.written, entry, pattern(room))
+        return [f"{answer} kind {self.written.kind} count {self.written.count}", f"buffer {weighed(buffer)}",
+                *pairs_lines(self.written, was < self.written.kind == model.AGILE)]
+
+    def write_command(self, letter):
+        if letter == b"S":
+            self.written = model.Shape()
+            return []
+        if letter == b"M":
+            self.written = self.shape()
+            return []
+        if letter == b"E":
+            return self.wrote()
+        raise Bad
 
     def command(self):
         letter = self.take(1)
@@ -112,7 +147,7 @@ class Bench:
             return [text(model.utf8_length, self.counted())]
         if letter == b"X":
             return [text(model.wide_length, self.counted())]
-        raise Bad
+        return self.write_command(letter)
 
     def run(self, commands):
         """The lines, up to the end or a bad command."""

@@ -114,6 +114,11 @@ def agile(event, digests, data, register=0, count=None, size=None):
     return u32(register) + u32(event) + u32(given(count, len(digests))) + listed + u32(given(size, len(data))) + data
 
 
+def listed(*digests):
+    """A list of digests, as a writer takes it: of each an id 2, a length 2, and its bytes."""
+    return b"".join(u16(id) + u16(len(digest)) + digest for id, digest in digests)
+
+
 def marker(*pairs, **fields):
     return sha1(NO_ACTION, spec_id(pairs, **fields))
 
@@ -189,6 +194,7 @@ def edited(r, data):
 # ---------------------------------------------------------------- commands of the bench
 
 SLOTS = 64  # the most that a walk is lent
+ROOM_MOST = 65536  # the most that a buffer has
 COUNTED_MOST = 131072  # the most bytes that a command has
 
 
@@ -201,10 +207,28 @@ N, C, c = b"N", b"C", b"c"
 L, H, F, f, P, G, U, X = (command(letter) for letter in (b"L", b"H", b"F", b"f", b"P", b"G", b"U", b"X"))
 
 
+def state(kind, pairs, count):
+    """What comes next, how many pairs count, and sixteen of them."""
+    table = b"".join(u16(id) + u16(size) for id, size in [*pairs, *[(0, 0)] * (16 - len(pairs))])
+    return u8(kind) + u64(given(count, len(pairs))) + table
+
+
 def W(held=0, total=0, kind=0, pairs=(), count=None, kept=0, number=0, a=0, b=0):
     """A made-up walker."""
-    table = b"".join(u16(id) + u16(size) for id, size in [*pairs, *[(0, 0)] * (16 - len(pairs))])
-    return b"W" + u64(held) + u64(total) + u8(kind) + u64(given(count, len(pairs))) + table + u8(kept) + u8(number) + u64(a) + u64(b)
+    return b"W" + u64(held) + u64(total) + state(kind, pairs, count) + u8(kept) + u8(number) + u64(a) + u64(b)
+
+
+S = b"S"
+
+
+def M(kind=0, pairs=(), count=None):
+    """A made-up writer's state."""
+    return b"M" + state(kind, pairs, count)
+
+
+def E(entry, room):
+    """An entry that is written into a buffer of so many bytes."""
+    return b"E" + u8(entry.form) + u32(entry.register) + u32(entry.event) + u32(room) + u32(len(entry.digests)) + entry.digests + u32(len(entry.data)) + entry.data
 
 
 # ---------------------------------------------------------------- logs of real firmware

@@ -1,10 +1,10 @@
 #!/usr/bin/env python3
-"""Measures our reader against the Rust, and prints the tables of docs/SPEED.md.
+"""Measures our reader against the Rust, and our writer against our reader, and prints the tables of docs/SPEED.md.
 
-    tools/speed.py [FOLDER] [--speed COMMAND] [--oracle DRIVER]
-    tools/speed.py --gate                              writes crates/speed/stdin
+    tools/speed.py [FOLDER] [--speed COMMAND] [--write COMMAND] [--oracle DRIVER] [--only-write]
+    tools/speed.py --gate                              writes crates/speed/stdin, and crates/write_speed/stdin and stdout
 
-FOLDER has the Rust source (docs/src) and logs of real firmware (logs); without it ../shared. COMMAND is what starts our program `speed`:
+FOLDER has the Rust source (docs/src) and logs of real firmware (logs); without it ../shared. COMMAND is what starts our program `speed` or `write_speed`:
 without it it is built, by `rt check` on x86-64 and by tools/native.sh on another processor. DRIVER is a built oracle; without it
 oracle/build.sh is run, unless target/oracle/driver is there. To be run from the top of the repository.
 
@@ -13,7 +13,8 @@ times. The processes to be compared run by turns, five times each, and the least
 records and the sum of all their numbers that the oracle's lines have, and so must the stored run of crates/speed.
 
 It ends with 1 if a bound is missed: the walk takes over twice the time of the Rust on a real log or on small records, a feed in one piece
-over twice the time of the walk, or a digest of 16,000 over 1.3 times the time of one of 4,000.
+over twice the time of the walk, a digest of 16,000 over 1.3 times the time of one of 4,000, or writing a log's records over twice the time of
+the walk of them, where there are contents to judge.
 """
 import os
 import re
@@ -23,9 +24,12 @@ import sys
 import tempfile
 
 import compare_logs
+import entries
+from bench_model import weighed
 from maker import ACTION, SEPARATOR, SHA1, SHA256, SMALLEST, TEXT, WIDE_TEXT, WITH_TWO, agile, marker, real_logs, sample, sha1, wide
 from model import LOG_MOST
 from oracle import arguments, driver_of, program, run
+from write_logs import entry_bytes
 
 ROUNDS, SECONDS = 5, 0.35
 WALK, ONE_PIECE = 0, LOG_MOST
@@ -55,6 +59,9 @@ TEXTS = {
     "wide text": texts(WIDE_TEXT, wide("abcdef")),
 }
 
+# Data without contents: a writer copies what a walk passes over.
+OPAQUE = {"no contents, 32,736 bytes of data": 2 * sha1(ACTION, sample(32736))}
+
 
 def digests(count):
     """A record of so many digests of size zero: the most fields to its bytes."""
@@ -72,17 +79,41 @@ def task(size, times, log):
     return struct.pack("<III", size, times, len(log)) + log
 
 
-def stored_tasks():
-    """A real log, one with every kind of contents, a refused one, small ones; and at the end a task that is too long."""
+def stored_logs():
+    """A real log, one with every kind of contents, a refused one, small ones."""
     with open("crates/list/stdin", "rb") as f:
         real = f.read()
     every = WITH_TWO + b"".join(agile(event, [(SHA1, sample(20))], data) for event, data in compare_logs.SOUND) + b"\1\2"
     refused = sha1(ACTION, b"abc") + sha1(SEPARATOR, b"\xff" * 4) + sha1(*compare_logs.FAULTY[12])
-    for log in (real, every, refused, sha1(SEPARATOR, bytes(4)) + b"\7", digests(20), bytes(3), b""):
+    return real, every, refused, sha1(SEPARATOR, bytes(4)) + b"\7", digests(20), bytes(3), b""
+
+
+def stored_tasks():
+    """Those logs, walked and fed; and at the end a task that is too long."""
+    real = stored_logs()[0]
+    for log in stored_logs():
         for size in (WALK, ONE_PIECE, 16, 1):
             yield task(size, 1, log)
     yield task(WALK, 3, real) + task(256, 2, real) + task(WALK, 0, real)
     yield struct.pack("<III", WALK, 1, LOG_MOST + 1)
+
+
+def write_task(times, log):
+    block = b"".join(entry_bytes(one, None) for one in entries.of_log(log))
+    return struct.pack("<II", times, len(block)) + block
+
+
+def wrote_line(times, log):
+    """The line of our writer on the entries of a log."""
+    own = entries.of_log(log)
+    end = sum(map(entries.length, own)) if times else 0
+    return f"wrote times {times} records {times * len(own)} bytes {end} sum {weighed(log[:end])}"
+
+
+def stored_writes():
+    """The logs of the stored run, each once, three times and no times: the tasks and the lines."""
+    given = [(times, log) for log in stored_logs() for times in (1, 3, 0)]
+    return b"".join(write_task(*one) for one in given), "".join(wrote_line(*one) + "\n" for one in given).encode()
 
 
 def check_stored(driver):
@@ -150,6 +181,19 @@ class Ours:
 
     def run(self, times):
         return spent(self.command, task(self.size, times, self.log))
+
+
+class Writer:
+    """Our writer on the entries of a log, which are made before."""
+
+    def __init__(self, command, log):
+        self.command, self.given = command, write_task(0, log)[4:]
+        must, line = wrote_line(1, log), self.run(1)[1]
+        if line != must:
+            sys.exit(f"speed: {line}, and must be {must}")
+
+    def run(self, times):
+        return spent(self.command, struct.pack("<I", times) + self.given)
 
 
 class Rust:
@@ -243,23 +287,46 @@ def by_pieces(ours, driver, folder):
         row(f"{size:,}", *(f"{us(one)}, {one / column[0]:.2f} times one piece" for one, column in zip(took, columns)))
 
 
+def reading(ours, driver, folder, real, missed):
+    check_stored(driver)
+    together = whole(ours, driver, "Real logs", real, missed)
+    whole_row("all together", "", "", together)
+    whole(ours, driver, "Small records", SMALL, missed)
+    whole(ours, driver, "Text", TEXTS, missed, bound=float("inf"))
+    many_digests(ours, driver, missed)
+    by_pieces(ours, driver, folder)
+
+
+def writing(ours, writer, driver, logs, missed):
+    """Writing the records of a log, from entries that are there, against the walk of it."""
+    table("Writing", "log", "bytes", "records", "walk, µs", "write, µs", "write : walk")
+    for name, log in logs.items():
+        walk = Ours(ours, driver, log, WALK)
+        took = measured(walk, Writer(writer, log))
+        row(name, f"{len(log):,}", f"{walk.records:,}", us(took[0]), us(took[1]), f"{took[1] / took[0]:.2f}")
+        if took[1] > 2 * took[0] and name not in OPAQUE:
+            missed.append(f"writing {name}")
+
+
 def main():
     ways = arguments(__doc__)
+    ways.add_argument("--write", metavar="COMMAND")
+    ways.add_argument("--only-write", action="store_true")
     ways.add_argument("--speed", metavar="COMMAND")
     ways.add_argument("--gate", action="store_true")
     given = ways.parse_args()
     if given.gate:
         with open("crates/speed/stdin", "wb") as f:
             f.write(b"".join(stored_tasks()))
+        for name, must in zip(("stdin", "stdout"), stored_writes()):
+            with open("crates/write_speed/" + name, "wb") as f:
+                f.write(must)
         return 0
     ours, driver, missed = program("speed", given.speed), driver_of(given), []
-    check_stored(driver)
-    together = whole(ours, driver, "Real logs", long_logs(given.folder, driver), missed)
-    whole_row("all together", "", "", together)
-    whole(ours, driver, "Small records", SMALL, missed)
-    whole(ours, driver, "Text", TEXTS, missed, bound=float("inf"))
-    many_digests(ours, driver, missed)
-    by_pieces(ours, driver, given.folder)
+    real = long_logs(given.folder, driver)
+    if not given.only_write:
+        reading(ours, driver, given.folder, real, missed)
+    writing(ours, program("write_speed", given.write), driver, {**real, **SMALL, **TEXTS, **OPAQUE}, missed)
     print("".join(f"\nmissed: {bound}" for bound in missed))
     return 1 if missed else 0
 

@@ -1,7 +1,7 @@
 // The commands that make, feed and close a walker: N, W, H, F, f, C and c.
-use crate::made_up;
-use crate::state;
-use crate::state::State;
+use bench_writes::state;
+use bench_writes::state::State;
+use bench_writes::walkers;
 use harness::forms;
 use harness::forms::Form;
 use harness::input;
@@ -27,15 +27,15 @@ pub fn fresh(s: State, hold: &mut [u8]) -> State {
 }
 
 pub fn made(s: State) -> State {
-    let mut b = [0u8; made_up::FIELDS];
-    if io::read_full(0, &mut b) < made_up::FIELDS {
+    let mut b = [0u8; walkers::FIELDS];
+    if io::read_full(0, &mut b) < walkers::FIELDS {
         return state::bad(s);
     }
-    if !made_up::is_sound(&b) {
+    if !walkers::is_sound(&b) {
         return state::bad(s);
     }
-    let walker = made_up::walker_of(&b);
-    state::past(state::with_walker(s, walker), made_up::FIELDS as u64 + 1)
+    let walker = walkers::walker_of(&b);
+    state::past(state::with_walker(s, walker), walkers::FIELDS as u64 + 1)
 }
 
 // A hold of this size that starts with the bytes given.

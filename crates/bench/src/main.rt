@@ -1,18 +1,18 @@
 // Drives every entry point by commands on standard input, and writes a line for each answer.
 // README.md has the commands and the exact text of every line.
 mod feeds;
-mod made_up;
-mod state;
+mod writing;
 
 use bench_reads::readers;
 use bench_reads::walks;
+use bench_writes::state;
+use bench_writes::state::State;
 use harness::forms::Form;
 use harness::input;
 use harness::input::Letter;
 use harness::replies::HOLD_MOST;
-use state::State;
 
-// The most bytes that a command gives behind its fields.
+// The most bytes that a command gives behind a length.
 const DATA_MOST: usize = 131072;
 
 // The rest of a command that makes, feeds or closes a walker, and the state after it.
@@ -29,8 +29,8 @@ fn feeding(letter: u8, s: State, data: &mut [u8], hold: &mut [u8]) -> State {
     }
 }
 
-// The rest of a command by its letter, and the state after it.
-fn command(letter: u8, s: State, data: &mut [u8], hold: &mut [u8]) -> State {
+// The rest of a command that reads, or that has to do with a walker, and the state after it.
+fn reading(letter: u8, s: State, data: &mut [u8], hold: &mut [u8]) -> State {
     match letter {
         b'L' => state::after(s, 9, walks::whole(data)),
         b'P' => state::after(s, 9, readers::node(data)),
@@ -38,6 +38,16 @@ fn command(letter: u8, s: State, data: &mut [u8], hold: &mut [u8]) -> State {
         b'U' => state::after(s, 5, readers::checked_text(data, false)),
         b'X' => state::after(s, 5, readers::checked_text(data, true)),
         _ => feeding(letter, s, data, hold),
+    }
+}
+
+// The rest of a command by its letter, and the state after it.
+fn command(letter: u8, s: State, data: &mut [u8], hold: &mut [u8]) -> State {
+    match letter {
+        b'S' => writing::fresh(s),
+        b'M' => writing::made(s),
+        b'E' => writing::entry(s, data),
+        _ => reading(letter, s, data, hold),
     }
 }
 

@@ -10,7 +10,7 @@ use walker::Fed;
 // The most that a hold has.
 pub const HOLD_MOST: usize = 65536;
 
-fn kind_number(k: Kind) -> u64 {
+pub fn kind_number(k: Kind) -> u64 {
     match k {
         Kind::First => 0,
         Kind::Sha1 => 1,
@@ -52,7 +52,7 @@ fn weighed(b: u8, place: usize) -> u32 {
     (b as u32) * (n as u32)
 }
 
-fn sum_of(hold: &[u8]) -> u32 {
+pub fn sum_of(hold: &[u8]) -> u32 {
     let mut sum: u32 = 0;
     let mut i: usize = 0;
     while i < hold.len() {
@@ -78,7 +78,7 @@ fn all_pairs(table: [Pair; PAIRS_MOST]) {
     }
 }
 
-fn pairs_line(table: [Pair; PAIRS_MOST]) {
+pub fn pairs_line(table: [Pair; PAIRS_MOST]) {
     print::say(b"pairs");
     all_pairs(table);
     print::say(b"\n");

@@ -3,11 +3,12 @@
 --   ByTurns, Readers              the walk by turns; the readers on what a walk accepted
 --   Pieces, OwnAnswers, Range     feeding by pieces (demand 3)
 --   Joined                        both: what a walk into slots says and what any run tells
+--   Writing, WritingByNumber      records and logs that are written (document 02, Req 01)
 --   OneOutcome                    each promise leaves one outcome
 --   ListingTurns                  the listing, turn by turn
 --   Bench, FeedCases              document 01's starred logs; feeds and closes written out
---   Idle, IdleFeeds               programs that do not meet the promises
---   Example, ExampleRun           the premises are met
+--   Idle, IdleFeeds, IdleWriters  programs that do not meet the promises
+--   Example, ExampleRun, ExampleWriting   the premises are met
 -- What leads there stands with what it is about: proofs/Explained.antt of `record`, proofs/Means.antt of `walk`, proofs/Promptness.antt and
 -- proofs/Agreement.antt of `pieces`; RunLaws is between the code's runs and those.
 pub mod Acceptance
@@ -28,3 +29,7 @@ pub mod ListingTurns
 pub mod OwnAnswers
 pub mod Range
 pub mod FeedCases
+pub mod Writing
+pub mod WritingByNumber
+pub mod IdleWriters
+pub mod ExampleWriting

@@ -5,6 +5,7 @@
 --   close-one, close-some   a close, likewise; it has the hold to read only
 --   puts-one, -some         a text put at a place of a lent buffer
 --   writes-one, -some       a line of the listing, written to a lent buffer
+--   write-one, -some        a record, written to a lent buffer
 -- Assumes nothing.
 use Prim.Native.Nat.{ℕ}
 use mathlib.Core.Path.{_≡_, refl, sym, ap, _∙_}
@@ -12,6 +13,7 @@ use mathlib.Core.List.{List, _++_}
 use lib.Dec.{leb}
 use lib.ListN.{length, take, drop, take-append-drop}
 use Rattle.numbers.specs.Number.{Bytes}
+use Rattle.record.specs.declared.Shape.{Shape}
 use Rattle.record.specs.declared.Slot.{Slot}
 use Rattle.walk.specs.declared.Walked.{Walked}
 use Rattle.walk.specs.Fill.{toldInto, walkedBy, slotsBy, FillSays}
@@ -22,6 +24,8 @@ use Rattle.walker.specs.declared.Walker.{Walker}
 use Rattle.walker.specs.Walker.{replyBy, walkerBy, feedTo, closeTo, FeedSays, CloseSays}
 use Rattle.buffer.specs.declared.Written.{Written}
 use Rattle.buffer.specs.Writes.{putEnd, putAt, Puts, writtenBy, bufferBy, Writes}
+use Rattle.write.specs.declared.Wrote.{Wrote}
+use Rattle.write.specs.Write.{Entry, recordBytes, faultOf, isClear, wroteBy, Given, WriteSays}
 use Rattle.promises.proofs.Slots.{slots-kept}
 
 pub fill-one : (log : List ℕ) (old : List Slot) (r r′ : Walked) (slots slots′ : List Slot) → FillSays log old r slots → FillSays log old r′ slots′
@@ -69,3 +73,11 @@ writes-one text old r r′ new new′ a b = (a .0 ∙ sym (b .0), a .1 ∙ sym (
 pub writes-some : (text old : List ℕ)
     → Writes text old (writtenBy (leb (length text) (length old)) text) (bufferBy (leb (length text) (length old)) text old)
 writes-some text old = (refl, refl)
+
+pub write-one : (sh : Shape) (e : Entry) (old : List ℕ) (r r′ : Wrote) (new new′ : List ℕ) → WriteSays sh e old r new → WriteSays sh e old r′ new′
+    → (r ≡ r′) × (new ≡ new′)
+write-one sh e old r r′ new new′ a b = (a .answers ∙ sym (b .answers), a .holds ∙ sym (b .holds))
+
+pub write-some : (sh : Shape) (e : Entry) → Given e → (old : List ℕ)
+    → WriteSays sh e old (wroteBy (faultOf sh e (length old)) sh e) (bufferBy (isClear (faultOf sh e (length old))) (recordBytes e) old)
+write-some sh e given old = record { answers = refl; holds = refl; given = given }

@@ -4,3 +4,4 @@ pub mod Answers
 pub mod Bench
 pub mod Runs
 pub mod Turns
+pub mod Writing
