@@ -2,6 +2,7 @@
 pub mod Cases
 pub mod ClassLaws
 pub mod FaultLaws
+pub mod PlainLaws
 pub mod RowLaws
 pub mod SequenceLaws
 pub mod Table

@@ -1,16 +1,26 @@
-// UTF-8, checked by the classes of its bytes.
+// UTF-8, checked by the classes of its bytes. Runs of plain bytes, those below 0x80, are passed
+// without them.
 use crate::Text;
 use crate::classes::CLASSES;
 use refusal::Why;
 ghost use mathlib.Core.Path.{_≡_};
-ghost use mathlib.Core.Bool.{cond};
+ghost use mathlib.Core.Bool.{true, cond};
 ghost use mathlib.Core.List.{_∷_, []};
-ghost use Prim.Native.Nat.{_+_, _<_};
-ghost use lib.ListN.{length, drop};
+ghost use Prim.Native.Nat.{ℕ, _+_, _<_, _≤_};
+ghost use lib.ListN.{length, drop, getD};
 ghost use Rattle.text.specs.Rows.{_··_, opens, stepOf, formed};
 ghost use Rattle.text.specs.Unicode.{utf8Rows};
 ghost use Rattle.text.specs.Classes.{classes, classOf, classesFrom};
 ghost use Rattle.text.specs.Text.{trimmedOf, utf8Of};
+
+// So many plain bytes are passed at once at the start of a text.
+const BLOCK: usize = 64;
+
+// So many are passed at once in any run.
+const WORD: usize = 8;
+
+// The highest bit of each byte of a word.
+const HIGH_BITS: u64 = 0x8080808080808080;
 
 fn class_of(table: &[u8; 256], b: u8) -> u8
     requires { ⌜ now table ≡ classes ⌝ }
@@ -89,18 +99,86 @@ fn sequence(table: &[u8; 256], s: &[u8], at: usize) -> usize
     }
 }
 
-fn well_formed(s: &[u8]) -> bool
-    ensures { λ r. ⌜ r ≡ formed utf8Rows 0 (now (s .entry)) ⌝ }
+// The highest of so many bytes from a place on.
+fn highest(s: &[u8], at: usize, size: usize) -> u8
+    requires { ⌜ at + size ≤ length (now s) ⌝ }
+    ensures { λ r. ⌜ ((i : ℕ) → i < size → getD (now (s .entry)) (at + i) 0 ≤ r) ⌝ }
+{
+    let mut high: u8 = 0;
+    let mut i = 0;
+    while i < size {
+        if high < s[at + i] {
+            high = s[at + i];
+        }
+        i += 1;
+    }
+    high
+}
+
+// Whether so many bytes stand at a place and each is below 0x80. A word is tested as one number.
+fn is_plain(s: &[u8], at: usize, size: usize) -> bool
+    requires { ⌜ at ≤ length (now s) ⌝ }
+    ensures { λ r. ⌜ (r ≡ true → (at + size ≤ length (now (s .entry))) × ((i : ℕ) → i < size → getD (now (s .entry)) (at + i) 0 < 0x80)) ⌝ }
+{
+    if s.len() - at < size {
+        return false;
+    }
+    if size == WORD {
+        return numbers::le64(s, at) & HIGH_BITS == 0;
+    }
+    highest(s, at, size) < 0x80
+}
+
+// Past the blocks of a size, one after the other, that are plain.
+fn past_blocks(s: &[u8], from: usize, size: usize) -> usize
+    requires { ⌜ (from ≤ length (now s)) × (0 < size) ⌝ }
+    ensures { λ r. ⌜ (from ≤ r) × (r ≤ length (now (s .entry))) × (formed utf8Rows 0 (drop r (now (s .entry))) ≡ formed utf8Rows 0 (drop from (now (s .entry)))) ⌝ }
+{
+    let mut at = from;
+    while is_plain(s, at, size) {
+        at += size;
+    }
+    at
+}
+
+// Past a run of plain bytes, by words and then one by one.
+fn past_run(s: &[u8], from: usize) -> usize
+    requires { ⌜ from ≤ length (now s) ⌝ }
+    ensures { λ r. ⌜ (from ≤ r) × (r ≤ length (now (s .entry))) × (formed utf8Rows 0 (drop r (now (s .entry))) ≡ formed utf8Rows 0 (drop from (now (s .entry)))) ⌝ }
+{
+    let near = past_blocks(s, from, WORD);
+    past_blocks(s, near, 1)
+}
+
+// Whether the text from a place on is well formed. After a plain byte the rest of its run is passed.
+fn well_formed_from(s: &[u8], from: usize) -> bool
+    requires { ⌜ from ≤ length (now s) ⌝ }
+    ensures { λ r. ⌜ r ≡ formed utf8Rows 0 (drop from (now (s .entry))) ⌝ }
 {
     // A constant that is indexed is written out anew each time.
     let table = CLASSES;
-    let mut at = 0;
+    let mut at = from;
     while at < s.len() {
         let n = sequence(&table, s, at);
         if n == 0 {
             return false;
         }
         at += n;
+        if n == 1 {
+            at = past_run(s, at);
+        }
+    }
+    true
+}
+
+// A text that is plain throughout needs no table, and none is made for it.
+fn well_formed(s: &[u8]) -> bool
+    ensures { λ r. ⌜ r ≡ formed utf8Rows 0 (now (s .entry)) ⌝ }
+{
+    let far = past_blocks(s, 0, BLOCK);
+    let at = past_run(s, far);
+    if at < s.len() {
+        return well_formed_from(s, at);
     }
     true
 }

@@ -1,60 +1,30 @@
--- `text::utf8::well_formed`: what is left from `at` on is well formed exactly where all is; each turn passes a sequence.
--- Assumes nothing.
-use Prim.Native.Nat.{_-_, _≤_}
-use mathlib.Core.Path.{_≡_, refl, sym, _∙_}
+-- `text::utf8::well_formed`: past the plain bytes at its start the text is as well formed as it is whole. Assumes nothing.
+use mathlib.Core.Path.{sym, _∙_}
 use native.Mathlib.Omega.{arith}
-use lib.ListN.{length, drop}
+use borrow.Author.Needs.{needs}
 use Rattle.text.specs.Unicode.{utf8Rows}
-use Rattle.text.specs.Rows.{formed}
-use Rattle.text.proofs.RowLaws.{turn, turn-fits, turn-stuck, turn-done}
+use Rattle.text.proofs.RowLaws.{turn-done}
 use Rattle.text.proofs.utf8.well_formed.Statement.{statement}
 use Rattle.text.proofs.utf8.well_formed.Tie as tie
 
-abbrev Inv-loop : tie.InvT-loop
-Inv-loop s table at₀ at = (at ≤ length s) × (formed utf8Rows 0 (drop at s) ≡ formed utf8Rows 0 s)
+past-blocks-requires : tie.Need-past-blocks-requires
+past-blocks-requires c κs = search needs
 
-abbrev μ-loop : tie.MeasureT-loop
-μ-loop s table at₀ at = length s - at
+past-run-requires : tie.Need-past-run-requires
+past-run-requires c κs = search needs
 
-loop-holds : tie.Need-loop-holds Inv-loop μ-loop
-loop-holds c = (omega arith, refl)
+well-formed-from-requires : tie.Need-well-formed-from-requires
+well-formed-from-requires c κs = search needs
 
-sequence-requires : tie.Need-sequence-requires Inv-loop μ-loop
-sequence-requires c κs = (refl, omega arith)
+returns : tie.Need-returns
+returns c = c .well-formed-from .ensures ∙ c .before .before .past-run .ensures .2 ∙ c .before .before .before .past-blocks .ensures .2
 
-returns : tie.Need-returns Inv-loop μ-loop
-returns c =
-    let s = c .before .before .before .before .before .before .args .s .now in
-    let at = c .before .before .before .before .loop .at in
-    sym (turn-stuck utf8Rows s at (omega arith) (sym (c .if1 .taken) ∙ c .before .sequence .ensures)) ∙ c .before .before .before .before .loop .inv .1
-
-add-at : tie.Need-add-at Inv-loop μ-loop
-add-at c = omega (arith, turn-fits utf8Rows (c .before .before .before .before .before .before .args .s .now) (c .before .before .before .before .loop .at) (c .before .sequence .result) (omega arith) (c .before .sequence .ensures))
-
-loop-less : tie.Need-loop-less Inv-loop μ-loop
-loop-less c = omega (arith, turn-fits utf8Rows (c .before .before .before .before .before .before .args .s .now) (c .before .before .before .before .loop .at) (c .before .sequence .result) (omega arith) (c .before .sequence .ensures))
-
-loop-again : tie.Need-loop-again Inv-loop μ-loop
-loop-again c =
-    let s = c .before .before .before .before .before .before .args .s .now in
-    let at = c .before .before .before .before .loop .at in
-    let n = c .before .sequence .result in
-    (turn-fits utf8Rows s at n (omega arith) (c .before .sequence .ensures), turn utf8Rows s at n (omega arith) (c .before .sequence .ensures) ∙ c .before .before .before .before .loop .inv .1)
-
-returns-2 : tie.Need-returns-2 Inv-loop μ-loop
+returns-2 : tie.Need-returns-2
 returns-2 c =
-    sym (turn-done utf8Rows (c .before .before .before .args .s .now) (c .before .loop .at) (omega arith)) ∙ c .before .loop .inv .1
+    sym (turn-done utf8Rows (c .before .before .before .before .args .s .now) (c .before .past-run .result) (omega arith))
+    ∙ c .before .past-run .ensures .2 ∙ c .before .before .past-blocks .ensures .2
 
 pub well-formed-spec : {M : Type 1} → statement M
 well-formed-spec =
     tie.close
-    (tie.spec
-    Inv-loop
-    μ-loop
-    loop-holds
-    sequence-requires
-    returns
-    add-at
-    loop-less
-    loop-again
-    returns-2)
+    (tie.spec past-blocks-requires past-run-requires well-formed-from-requires returns returns-2)
