@@ -22,20 +22,20 @@ def walk_lines(slots, records, ending):
     return [f"walk {len(records)} {ending}", *records, f"kept {slots - len(records)}"]
 
 
-def weighed(b):
-    """The sum of bytes, each times its place counted from 1."""
-    return sum(x * i for i, x in enumerate(b, 1)) % 2 ** 32
+def weighed(numbers):
+    """The sum of numbers or bytes, each times its place counted from 1."""
+    return sum(x * i for i, x in enumerate(numbers, 1)) % 2 ** 32
 
 
 def pairs_lines(shape, is_marker):
     return ["pairs " + " ".join(f"{id}:{size}" for id, size in shape.table)] if is_marker else []
 
 
-def fed_lines(walker, taken, answer, hold_sum, is_marker):
-    """The lines of a feed or a close; the walker is that after the call."""
+def fed_lines(walker, taken, answer, hold_sum, stands_sum, is_marker):
+    """The lines of a feed or a close; the walker is that after the call, and the sums are those of the hold and of where its registers stand."""
     shape = walker.shape
     return [f"fed {taken} held {walker.held} total {walker.total} kind {shape.kind} count {shape.count} {answer}", f"hold {hold_sum % 2 ** 32}",
-            *pairs_lines(shape, is_marker)]
+            *pairs_lines(shape, is_marker), f"stands {stands_sum % 2 ** 32}"]
 
 
 def pattern(n):
@@ -89,13 +89,17 @@ class Bench:
         kind, count = self.number(1, 2), self.number(8)
         return model.Shape(kind, [(self.number(2), self.number(2)) for _ in range(16)], count)
 
+    def account(self):
+        counts = [self.number(4) for _ in range(24)]
+        return model.Account(counts, [self.number(4) for _ in range(96)])
+
     def made_up(self):
-        held, total, shape = self.number(8), self.number(8), self.shape()
+        held, total, shape, account = self.number(8), self.number(8), self.shape(), self.account()
         kept, number, a, b = self.number(1, 2), self.number(1), self.number(8), self.number(8)
         if kept == 2 and number not in REFUSALS:
             raise Bad
         answer = (None, model.closed(a, 0, b), model.refused(number, a))[kept]
-        self.walker = model.Walker(held, total, shape, answer)
+        self.walker = model.Walker(held, total, shape, account, answer)
         return []
 
     def sized(self):
@@ -104,7 +108,8 @@ class Bench:
         return []
 
     def fed(self, taken, answer):
-        return fed_lines(self.walker, taken, answer, weighed(self.hold), answer.inside is not None and answer.inside.word == "marker")
+        is_marker = answer.inside is not None and answer.inside.word == "marker"
+        return fed_lines(self.walker, taken, answer, weighed(self.hold), weighed(self.walker.account.numbers), is_marker)
 
     def wrote(self):
         form, register, event, room = self.number(1, 1), self.number(4), self.number(4), self.number(4, ROOM_MOST)

@@ -4,8 +4,8 @@
     tools/check_listing.py COMMAND [WORD ...]
 
 COMMAND with its words starts the listing, which reads the log on standard input. To be run from the top of the repository. It ends with 1 where they
-differ. The logs: both sides of the limit and what is far past it, each kind of contents in each kind of log, records that are refused or cut, tails, and
-the sample of real firmware, whole and damaged. Some come a few bytes a read as well. They are the same in every run."""
+differ. The logs: both sides of the limit and what is far past it, registers that come again, each kind of contents in each kind of log, records that are
+refused or cut, tails, and the sample of real firmware, whole and damaged. Some come a few bytes a read as well. They are the same in every run."""
 import contextlib
 import random
 import socket
@@ -13,7 +13,7 @@ import subprocess
 import sys
 
 import model
-from maker import (ACTION, BLOB, END, FRAMES, GPT, IMAGE, SEPARATOR, TEXT, VARIABLE, WIDE_TEXT, cut_or_changed, entry, framed, gpt, image, sha1, u64,
+from maker import (ACTION, AGAIN, BLOB, END, FRAMES, GPT, IMAGE, SEPARATOR, TEXT, VARIABLE, WIDE_TEXT, cut_or_changed, entry, framed, gpt, image, sha1, u64,
                    variable, wide)
 from oracle import lines_text, run
 
@@ -23,6 +23,7 @@ BORDERS = (
     *((f"{n} bytes", bytes(n)) for n in range(5)),
     ("document 01's example", sha1(SEPARATOR, bytes(4)) + b"\7"),
     ("the greatest numbers", sha1(0xFFFFFFFF, b"", register=0xFFFFFFFF)),
+    *((f"registers that come again, {kind}", log) for kind, log in AGAIN.items()),
     ("65,535 bytes", LONGEST[:-1]),
     ("65,536 bytes", LONGEST),
     ("65,537 bytes", LONGEST + bytes(1)),

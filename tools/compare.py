@@ -24,7 +24,7 @@ from model import LOG_MOST
 from oracle import arguments, ask, drawn_pieces, driver_of, fed, listed, lists_of, program, read, run, said, walked
 
 FED, READ, LISTED = 60, 12, 125  # one log of so many is fed, read, listed
-FED_OF = {"document 01": 1, "limits": 10, "real logs": 10}
+FED_OF = {"document 01": 1, "limits": 10, "real logs": 10, "registers": 10}
 READ_OF = {"document 01": 1}
 
 

@@ -16,7 +16,7 @@ import sys
 
 import maker
 import model
-from maker import (ACTION, BLOB, END, GPT, IMAGE, SEPARATOR, SHA1, SHA256, SHA512, TEXT, VARIABLE, WIDE_TEXT, cut, front_changed, marker, node, packed,
+from maker import (ACTION, AGAIN, BLOB, END, GPT, IMAGE, SEPARATOR, SHA1, SHA256, SHA512, TEXT, VARIABLE, WIDE_TEXT, cut, front_changed, marker, node, packed,
                    real_logs, sha1, spec_id, u16, u32, u64, wide)
 from model import LOG_MOST, NO_ACTION
 
@@ -83,6 +83,8 @@ OURS = {
     "text_after_text": sha1(TEXT, b"ab\0\0") + sha1(WIDE_TEXT, wide("å1\0")) + sha1(TEXT, b"\xED\xA0\x80"),
     "size_32736_twice": 2 * sha1(ACTION, bytes(range(256)) * 127 + bytes(224)),
     "200_digests_of_size_0": marker((SHA256, 0)) + agile(SEPARATOR, [(SHA256, 0)] * 200, u32(0)) + b"\1",
+    "registers_again": AGAIN["SHA-1"] + b"\1\2\3",
+    "registers_again_agile": AGAIN["agile"],
 }
 
 # For the long run alone.

@@ -141,6 +141,15 @@ def framed(frame, event, data):
     return before + (sha1(event, data) if digests is None else agile(event, digests, data))
 
 
+# Records by register and type: registers come again, the last that is counted and the first that is not, with type 3 among them.
+NAMED = ((4, ACTION), (23, TEXT), (4, NO_ACTION), (4, SEPARATOR), (24, ACTION), (23, ACTION), (23, NO_ACTION), (24, TEXT), (4, TEXT))
+# Logs of them; the agile records have no, one or two digests of one id.
+AGAIN = {
+    "SHA-1": b"".join(sha1(event, b"", register) for register, event in NAMED),
+    "agile": marker((SHA256, 1)) + b"".join(agile(event, [(SHA256, b"x")] * (i % 3), b"", register) for i, (register, event) in enumerate(NAMED)),
+}
+
+
 # ---------------------------------------------------------------- damage
 
 def cut(r, data):
@@ -213,9 +222,21 @@ def state(kind, pairs, count):
     return u8(kind) + u64(given(count, len(pairs))) + table
 
 
-def W(held=0, total=0, kind=0, pairs=(), count=None, kept=0, number=0, a=0, b=0):
-    """A made-up walker."""
-    return b"W" + u64(held) + u64(total) + state(kind, pairs, count) + u8(kept) + u8(number) + u64(a) + u64(b)
+def numbers(n, some):
+    """So many numbers of 32 bits: some by their places, the others 0."""
+    some = dict(some)
+    return b"".join(u32(some.get(i, 0)) for i in range(n))
+
+
+def bank(register, id):
+    """The place of a tally: that of a register's digests with this id."""
+    return 4 * register + KNOWN_IDS.index(id)
+
+
+def W(held=0, total=0, kind=0, pairs=(), count=None, counts=(), tallies=(), kept=0, number=0, a=0, b=0):
+    """A made-up walker; counts and tallies by their places."""
+    stands = numbers(24, counts) + numbers(96, tallies)
+    return b"W" + u64(held) + u64(total) + state(kind, pairs, count) + stands + u8(kept) + u8(number) + u64(a) + u64(b)
 
 
 S = b"S"

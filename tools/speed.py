@@ -11,7 +11,7 @@ oracle/build.sh is run, unless target/oracle/driver is there. To be run from the
 
 A time is the processor time of a process that reads one log so many times over, less that of one that reads it no times, divided by the
 times. The processes to be compared run by turns, five times each, and the least of each counts. Before it is timed a log must give the
-records and the sum of all their numbers that the oracle's lines have, and so must the stored run of crates/speed.
+records and the sum of all their numbers that the oracle's lines have, with the serials (tools/oracle.py), and so must the stored run of crates/speed.
 
 It ends with 1 if a bound is missed: the walk takes over twice the time of the Rust on a real log or on small records, or longer than the Rust
 on text of one byte a character; a feed in one piece over twice the time of the walk; a digest of 16,000 over 1.3 times the time of one of
@@ -30,7 +30,7 @@ import entries
 from bench_model import weighed
 from maker import ACTION, SEPARATOR, SHA1, SHA256, SMALLEST, TEXT, WIDE_TEXT, WITH_TWO, agile, marker, real_logs, sample, sha1, wide
 from model import LOG_MOST
-from oracle import arguments, driver_of, program, run
+from oracle import arguments, driver_of, program, run, serials_of
 from write_logs import entry_bytes
 
 ROUNDS, SECONDS = 5, 0.35
@@ -155,19 +155,22 @@ def read_to(driver, log):
     return int(last[1]) if last else 0
 
 
-def records_and_sum(driver, log):
-    """How many records the oracle's lines have, and the sum of the numbers in them; the word `bios` counts 1."""
+def records_and_sums(driver, log):
+    """How many records the oracle's lines have, the sum of the numbers in them (the word `bios` counts 1), and that of their serials."""
     lines = lines_of(driver, log)[1:-1]
-    return len(lines), sum(int(n) for line in lines for n in re.findall(r"\d+", line)) + sum(line.endswith("bios") for line in lines)
+    told = sum(int(n) for line in lines for n in re.findall(r"\d+", line)) + sum(line.endswith("bios") for line in lines)
+    return len(lines), told, sum(serials_of(lines))
 
 
-def check(driver, log, size, times, line):
-    """Holds a line of our program to the oracle; gives the records of one walk."""
-    records, total = records_and_sum(driver, log)
+def check(driver, log, size, times, line, is_before=False):
+    """Holds a line of our program to the oracle; gives the records of one walk. As it was before it had serials, its sum is without them."""
+    records, told, serials = records_and_sums(driver, log)
     word = f"pieces of {size}" if size else "walk"
     calls = str((records + 1) * times) if size == WALK else r"\d+"
-    if not re.fullmatch(f"{word} bytes {len(log)} times {times} calls {calls} records {records * times} sum {total * times % 2**64}", line):
-        sys.exit(f"speed: {line}\nthe oracle has {records} records and the sum {total}")
+    must = f"{word} bytes {len(log)} times {times} calls {calls} records {records * times} sum"
+    sums = (told + serials, told) if is_before else (told + serials,)
+    if not any(re.fullmatch(f"{must} {n * times % 2**64}", line) for n in sums):
+        sys.exit(f"speed: {line}\nthe oracle has {records} records and the sum {sums[0]}")
     return records
 
 
@@ -190,9 +193,9 @@ def spent(command, given):
 class Ours:
     """Our program on a log, by pieces of a size or whole."""
 
-    def __init__(self, command, driver, log, size):
+    def __init__(self, command, driver, log, size, is_before=False):
         self.command, self.log, self.size = command, log, size
-        self.records = check(driver, log, size, 1, self.run(1)[1])
+        self.records = check(driver, log, size, 1, self.run(1)[1], is_before)
 
     def run(self, times):
         return spent(self.command, task(self.size, times, self.log))
@@ -316,7 +319,7 @@ def as_it_was(before, ours, driver, logs, missed):
     """The walk as it was, against the walk."""
     table("Before and after", "log", "before, µs", "after, µs", "after : before")
     for name, log in logs.items():
-        took = measured(Ours(before, driver, log, WALK), Ours(ours, driver, log, WALK))
+        took = measured(Ours(before, driver, log, WALK, is_before=True), Ours(ours, driver, log, WALK))
         row(name, us(took[0]), us(took[1]), f"{took[1] / took[0]:.2f}")
         if took[1] > SLOWER.get(name, 1.1) * took[0]:
             missed.append(f"{name}, slower than before")

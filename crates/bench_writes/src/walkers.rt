@@ -4,6 +4,8 @@ use numbers::Span;
 use refusal::Ending;
 use refusal::Refusal;
 use refusal::Why;
+use standing::REGISTERS;
+use standing::TALLIES;
 use walker::Kept;
 use walker::Walker;
 
@@ -12,15 +14,19 @@ const TOTAL: usize = 8;
 
 const SHAPE: usize = 16;
 
-const KEPT: usize = 89;
+const COUNTS: usize = 89;
 
-const NUMBER: usize = 90;
+const TALLIED: usize = 185;
 
-const FIRST: usize = 91;
+const KEPT: usize = 569;
 
-const SECOND: usize = 99;
+const NUMBER: usize = 570;
 
-pub const FIELDS: usize = 107;
+const FIRST: usize = 571;
+
+const SECOND: usize = 579;
+
+pub const FIELDS: usize = 587;
 
 // What comes next, and the pairs.
 fn shape_part(b: &[u8]) -> &[u8] {
@@ -79,7 +85,22 @@ fn kept_of(kept: u8, number: u8, a: usize, b: usize) -> Kept {
     }
 }
 
+// Numbers of four bytes, from `at` on.
+fn read_all(list: &mut [u32], b: &[u8], at: usize) {
+    let mut from = at;
+    let mut i: usize = 0;
+    while i < list.len() {
+        list[i] = numbers::le32(b, from);
+        from = std::num::wrapping_add_usize(from, 4);
+        i += 1;
+    }
+}
+
 pub fn walker_of(b: &[u8]) -> Walker {
+    let mut counts = [0u32; REGISTERS];
+    let mut tallies = [0u32; TALLIES];
+    read_all(&mut counts, b, COUNTS);
+    read_all(&mut tallies, b, TALLIED);
     let a = numbers::le64(b, FIRST) as usize;
     let tail = numbers::le64(b, SECOND) as usize;
     let shape = states::state_of(shape_part(b));
@@ -88,5 +109,7 @@ pub fn walker_of(b: &[u8]) -> Walker {
         total: numbers::le64(b, TOTAL) as usize,
         shape,
         kept: kept_of(numbers::byte(b, KEPT), numbers::byte(b, NUMBER), a, tail),
+        counts,
+        tallies,
     }
 }

@@ -9,6 +9,8 @@ use harness::forms;
 use harness::forms::Form;
 use numbers::Span;
 use refusal::LOG_MOST;
+use standing::REGISTERS;
+use standing::TALLIES;
 use walker::Fed;
 use walker::Walker;
 
@@ -38,6 +40,8 @@ fn start(log: &[u8], way: Way, random: u64) -> State {
         walker: walker::fresh(),
         cursor,
         needed: whole::needed_at(log, cursor),
+        counts: [0u32; REGISTERS],
+        tallies: [0u32; TALLIES],
         taken: 0,
         records: 0,
         cutter: cut::first(cutting, log.len(), random),

@@ -6,6 +6,8 @@ use crate::whole;
 use record::Slot;
 use refusal::Ending;
 use refusal::Refusal;
+use standing::REGISTERS;
+use standing::TALLIES;
 use walk::Cursor;
 use walker::Answer;
 use walker::Fed;
@@ -29,6 +31,9 @@ pub struct State {
     // are where it stops.
     pub cursor: Cursor,
     pub needed: usize,
+    // What it has counted so far.
+    pub counts: [u32; REGISTERS],
+    pub tallies: [u32; TALLIES],
     // The bytes taken and the records given so far.
     pub taken: usize,
     pub records: usize,
@@ -39,11 +44,15 @@ fn staged(s: State, stage: Stage) -> State {
     let walker = s.walker;
     let cursor = s.cursor;
     let cutter = s.cutter;
+    let counts = s.counts;
+    let tallies = s.tallies;
     State {
         stage,
         walker,
         cursor,
         needed: s.needed,
+        counts,
+        tallies,
         taken: s.taken,
         records: s.records,
         cutter,
@@ -69,10 +78,21 @@ fn onward(s: State, len: usize) -> State {
     t
 }
 
+// Whether the walker has counted what the whole walk has.
+fn is_standing(s: State, walker: Walker) -> bool {
+    let counts = s.counts;
+    let tallies = s.tallies;
+    let mine = walker.counts;
+    let own = walker.tallies;
+    same::numbers(&counts, &mine) && same::numbers(&tallies, &own)
+}
+
 // Whether the walker's numbers are those of a walker that holds the bytes from the cursor on.
 fn is_holding(s: State, walker: Walker, taken: usize) -> bool {
     let cursor = s.cursor;
-    walker.total == taken && walker.held == std::num::wrapping_sub_usize(taken, cursor.at as usize)
+    walker.total == taken
+        && walker.held == std::num::wrapping_sub_usize(taken, cursor.at as usize)
+        && is_standing(s, walker)
 }
 
 fn moved(s: State, walker: Walker, taken: usize) -> State {
@@ -101,6 +121,13 @@ fn passed(log: &[u8], s: State, next: Cursor) -> State {
     t
 }
 
+fn counted(s: State, counts: [u32; REGISTERS], tallies: [u32; TALLIES]) -> State {
+    let mut t = s;
+    t.counts = counts;
+    t.tallies = tallies;
+    t
+}
+
 // What is left of the piece is fed again.
 fn fed_on(s: State, len: usize) -> State {
     let cutter = s.cutter;
@@ -116,11 +143,13 @@ fn fed_on(s: State, len: usize) -> State {
 
 fn after_record(log: &[u8], hold: &[u8], s: State, slot: Slot) -> State {
     let cursor = s.cursor;
-    let turned = walk::next_record(log, cursor);
+    let mut counts = s.counts;
+    let mut tallies = s.tallies;
+    let turned = walk::next_record(log, cursor, &mut counts, &mut tallies);
     let turn = turned.turn;
     let next = turned.next;
     if whole::is_given(log, hold, turn, s.taken, slot) {
-        return fed_on(passed(log, s, next), log.len());
+        return fed_on(passed(log, counted(s, counts, tallies), next), log.len());
     }
     staged(s, Stage::Differs)
 }

@@ -9,6 +9,21 @@ fn slot(a: Slot, b: Slot) -> bool {
     fields::same(fields::fields_of(a), fields::fields_of(b))
 }
 
+// Whether two lists have the same numbers.
+pub fn numbers(a: &[u32], b: &[u32]) -> bool {
+    if a.len() != b.len() {
+        return false;
+    }
+    let mut i: usize = 0;
+    while i < a.len() {
+        if a[i] != b[i] {
+            return false;
+        }
+        i += 1;
+    }
+    true
+}
+
 fn is_end(e: Ending, at: usize, tail: usize) -> bool {
     if let Ending::End { at: a, tail: t } = e {
         a == at && t == tail

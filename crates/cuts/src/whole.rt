@@ -6,8 +6,11 @@ use record::Turn;
 use refusal::Ending;
 use refusal::Refusal;
 use refusal::Why;
+use standing::REGISTERS;
+use standing::TALLIES;
 use walk::Cursor;
 ghost use mathlib.Core.Path.{_≡_};
+ghost use Rattle.standing.specs.Standing.{noneYet};
 ghost use Rattle.walk.specs.Turn.{turnOf};
 
 // Whether the n bytes at the hold's front are those of the log from `at` on.
@@ -27,11 +30,13 @@ fn end_of(slot: Slot) -> usize {
     std::num::wrapping_add_usize(data.at, data.len)
 }
 
-// What the whole walk says at a cursor.
+// What the whole walk says at a cursor, where nothing was counted.
 pub fn turn_at(log: &[u8], cursor: Cursor) -> Turn
-    ensures { λ r. ⌜ r ≡ turnOf (now (log .entry)) cursor .turn ⌝ }
+    ensures { λ r. ⌜ r ≡ turnOf (now (log .entry)) cursor noneYet .turned .turn ⌝ }
 {
-    let turned = walk::next_record(log, cursor);
+    let mut counts = [0u32; REGISTERS];
+    let mut tallies = [0u32; TALLIES];
+    let turned = walk::next_record(log, cursor, &mut counts, &mut tallies);
     turned.turn
 }
 

@@ -119,6 +119,10 @@ pub fn slot(s: Slot) {
     let fields = fields::fields_of(s);
     let numbers = fields.numbers;
     let contents = s.contents;
-    let first = filled(b"at # pcr # type # place # digests # data #+#", &numbers, 0);
+    let first = filled(
+        b"at # pcr # type # place # digests # data #+# nth #",
+        &numbers,
+        0,
+    );
     inside(contents, &numbers, first);
 }

@@ -1,9 +1,11 @@
-// The lines of a feed or a close: the reply with the walker then, the hold, the pairs of a marker.
+// The lines of a feed or a close: the reply with the walker then, the hold, the pairs of a marker, and
+// where the registers stand.
 use crate::print;
 use contents::Contents;
 use record::Kind;
 use refusal::PAIRS_MOST;
 use spec_id::Pair;
+use standing::REGISTERS;
 use walker::Answer;
 use walker::Fed;
 
@@ -113,8 +115,35 @@ fn marker_line(fed: Fed) {
     }
 }
 
+// A number times its place and one: no list has more than 128 of them.
+fn placed(n: u32, place: usize) -> u64 {
+    let times = 1 + place % 128;
+    (n as u64) * (times as u64)
+}
+
+// The sum of numbers of which the first has the place `from`.
+fn placed_sum(numbers: &[u32], from: usize) -> u64 {
+    let mut sum: u64 = 0;
+    let mut i: usize = 0;
+    while i < numbers.len() {
+        let place = std::num::wrapping_add_usize(from, i);
+        sum = std::num::wrapping_add_u64(sum, placed(numbers[i], place));
+        i += 1;
+    }
+    sum
+}
+
+fn stands_line(fed: Fed) {
+    let walker = fed.walker;
+    let counts = walker.counts;
+    let tallies = walker.tallies;
+    let sum = std::num::wrapping_add_u64(placed_sum(&counts, 0), placed_sum(&tallies, REGISTERS));
+    print::line(b"stands #\n", &[sum % 4294967296]);
+}
+
 pub fn lines(fed: Fed, hold: &[u8]) {
     reply_line(fed);
     hold_line(hold);
     marker_line(fed);
+    stands_line(fed);
 }

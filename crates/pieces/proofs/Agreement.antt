@@ -96,7 +96,7 @@ module _ {Shape Rec : Type 0} (judge : Judge Shape Rec) (full most : ℕ) (wrong
     where
       go : {w : Walker Shape} {hold left : List ℕ} {over : Bool} → Reached judge full most wrong sh log cs w hold over left → told e cs ≡ walk judge sh 0 log
       go (reached-open base f p h d o) = both t f
-      go (reached-shut x y tells k) = tells e
+      go (reached-shut x y tells came k) = tells e
 
   -- A close that comes in a run stops: it gives the end or a refusal.
   pub close-ends : (sh : Shape) (log last : List ℕ) (bs : List (Call (Walker Shape) Rec)) (hold : List ℕ) (o : Outcome (Walker Shape) Rec)
@@ -111,7 +111,7 @@ module _ {Shape Rec : Type 0} (judge : Judge Shape Rec) (full most : ℕ) (wrong
       go (reached-open base f p h d x) (closes {w = w} {last = before} m l q z) =
           let y = close-stops judge full most wrong sh log able short base _ w before hold (d ∙ m) x l in
           (y .ending, ap (λ z. z .answer) q ∙ y .says)
-      go (reached-shut e y tells k) (closes {w = w} m l q z) =
+      go (reached-shut e y tells came k) (closes {w = w} m l q z) =
           (e, ap (λ z. z .answer) (q ∙ close-kept judge full most wrong w hold (k .ranged hold (l .size)) e (k .keeps)))
 
   -- So in a run with a close a call stopped,

@@ -1,20 +1,21 @@
--- Worked cases of the words in which runs and promptness are stated (specs/Run.antt, specs/Prompt.antt), by computation; made-up walkers, and
--- calls that are not prompt. Assumes nothing.
+-- Worked cases of the words in which runs and promptness are stated (specs/Run.antt, specs/Prompt.antt), by computation; made-up walkers,
+-- calls that are not prompt, and accounts beside the shape (specs/Account.antt). Assumes nothing.
 use Prim.Native.Nat.{ℕ, _+_}
 use mathlib.Core.Path.{_≡_, refl, ap}
 use mathlib.Core.Bool.{Bool, true, false}
 use mathlib.Core.Option.{Option, none, some}
 use mathlib.Core.List.{List, [], _∷_, map}
 use native.Mathlib.Omega.{arith}
-use lib.ListN.{take, drop, getD}
+use lib.ListN.{length, take, drop, getD}
 use Rattle.numbers.proofs.ByCases.{never}
 use Rattle.refusal.specs.declared.Ending.{Ending}
 use Rattle.refusal.specs.declared.Why.the-variants.{FieldCut, BadValue, OutOfRange}
 use Rattle.refusal.specs.Endings.{refusedWith}
 use Rattle.refusal.specs.Refusals.{numberOf}
+use Rattle.pieces.specs.Account.{accounted}
 use Rattle.pieces.specs.Taken.{taken}
 use Rattle.pieces.specs.Feed.{Walker, Answer, Outcome, gives, stops, wants, fresh, feedOf, closeOf}
-use Rattle.pieces.specs.Walk.{walkF, walk}
+use Rattle.pieces.specs.Walk.{Told, walkF, walk}
 use Rattle.pieces.specs.Run.{join, Call, fedCall, closeCall, after, stopped, took, holding, told, callsSeen}
 use Rattle.pieces.specs.Prompt.{Early, an-end, a-cut, Before, pieceOf, lentTo, given, upTo, Prompt}
 use Rattle.pieces.proofs.Toy.{Item, judge}
@@ -163,3 +164,22 @@ leaves-other-bytes w hold p = let e = p .front _ refl in never cc
 counts-nothing : (hold hold′ : List ℕ)
     → Prompt judge tt (1 ∷ []) [] (fedCall (1 ∷ []) hold (record { answer = wants; count = 1; walker = fresh tt; hold = hold′ })) → ⊥
 counts-nothing hold hold′ p = absurd (omega (arith, p .takes refl .2))
+
+-- ---- accounts of the toy format (Toy.antt): a record has a number where its start was
+
+abbrev numbered : (ℕ → Item → List ℕ → ℕ) → List ℕ → Told Item
+numbered on log = walk (accounted (λ a r. record { at = a; bytes = r .bytes }) (λ sh. on) judge) (record { shape = tt; account = 0 }) 0 log
+
+-- the records before it, counted
+numbered-in-order : numbered (λ a r x. a + 1) (1 ∷ 7 ∷ 0 ∷ 2 ∷ 8 ∷ 9 ∷ [])
+    ≡ record {
+      records = record { at = 0; bytes = 7 ∷ [] } ∷ record { at = 1; bytes = [] } ∷ record { at = 2; bytes = 8 ∷ 9 ∷ [] } ∷ [];
+      ending = Ending.End 6 0;
+    }
+unfolding walking accounted
+numbered-in-order = refl
+
+-- their bytes, counted: that is its start
+numbered-by-bytes : numbered (λ a r x. a + length x) (1 ∷ 7 ∷ 0 ∷ 2 ∷ 8 ∷ 9 ∷ []) ≡ walk judge tt 0 (1 ∷ 7 ∷ 0 ∷ 2 ∷ 8 ∷ 9 ∷ [])
+unfolding walking accounted
+numbered-by-bytes = refl

@@ -1,7 +1,8 @@
 -- What one call does to a walker that a run from a fresh one has reached. Agreement and promptness rest on it.
 -- While no call has stopped (`Open`), the held bytes are the log's bytes from the start of the record in hand, they wait, and the walk
--- of every beginning of the log that reaches that start is the records given so far and then the walk from there on. Once a call has
--- stopped (`Shut`), the walker keeps that answer and its numbers stay in range.
+-- of every beginning of the log that reaches that start is the records given so far and then the walk from there on; those records lead to
+-- the walker's shape. Once a call has stopped (`Shut`), the walker keeps that answer and its numbers stay in range; its shape (`Came`) is as
+-- it was.
 --   Step                       what a call did to an open walker: how it answered (`Next`), and what holds whatever it answered
 --   feed-step, close-step      what a feed and a close do
 -- Assumes nothing.
@@ -13,7 +14,7 @@ use mathlib.Core.List.{List, [], _∷_, _++_, append-assoc, append-nil}
 use native.Mathlib.Omega.{arith}
 use native.Mathlib.Nat.{add-zero}
 use lib.ListN.{length, take, drop, length-append, length-drop}
-use lib.Seq.{paste, take-paste, take-all, take-take, take-append-le, drop-at}
+use lib.Seq.{paste, take-paste, take-all, take-take, take-append-le, take-add, length-take-le, drop-at}
 use Rattle.numbers.specs.Range.{partOf}
 use Rattle.numbers.proofs.ByCases.{split, both}
 use Rattle.numbers.proofs.RangeLaws.{length-part, part-add}
@@ -26,12 +27,14 @@ use Rattle.pieces.specs.Taken.{taken, Least}
 use Rattle.pieces.specs.Feed.{Walker, gives, stops, wants, Outcome, start, fed, closed, feedOf, closeOf, Feedable}
 use Rattle.pieces.specs.Run.{Lent}
 use Rattle.pieces.specs.Prompt.{walkTo, Early, Before}
+use Rattle.pieces.specs.Went.{Went}
 use Rattle.pieces.proofs.VerdictLaws.{sound-all, waits-within}
 use Rattle.pieces.proofs.WalkLaws.{walk-more, walk-sound, walk-refused}
 use Rattle.pieces.proofs.Beginnings.{walk-waits}
 use Rattle.pieces.proofs.TakenLaws.{taken-least, waits-all, none-before, taken-within}
 use Rattle.pieces.proofs.FeedLaws.{InRange, feed-passed, close-passed}
 use Rattle.pieces.proofs.RunLaws.{adds}
+use Rattle.pieces.proofs.WentLaws.{went-snoc}
 
 module _ {Shape Rec : Type 0} (judge : Judge Shape Rec) (full most : ℕ) (wrong : ℕ → Shape → Bool) (sh : Shape) (log : List ℕ) where
   -- No call has stopped: the record in hand starts at `base`, and the records rs were given.
@@ -45,6 +48,12 @@ module _ {Shape Rec : Type 0} (judge : Judge Shape Rec) (full most : ℕ) (wrong
     pub waits : decided (judge (w .shape) base (partOf log base (w .held))) ≡ false
     pub rest : (k : ℕ) → walkTo judge sh log (base + k) ≡ adds rs (walk judge (w .shape) base (partOf log base k))
     pub sofar : (m : ℕ) → m ≤ w .total → Before rs (walkTo judge sh log m)
+    -- the records given lead to its shape
+    pub went : Went judge sh 0 (take base log) rs (w .shape)
+
+  -- The records rs, read from a beginning of the bytes that w has had, lead to its shape.
+  abbrev pub Came : List Rec → Walker Shape → Type 0
+  Came rs w = (m : ℕ) × (m ≤ w .total) × (w .total ≤ length log) × Went judge sh 0 (take m log) rs (w .shape)
 
   -- A call has stopped with e, and every hold of full size is in range.
   pub record Shut (e : Ending) (w : Walker Shape) : Type 0 where
@@ -56,6 +65,7 @@ module _ {Shape Rec : Type 0} (judge : Judge Shape Rec) (full most : ℕ) (wrong
     pub ending : Ending
     pub says : o .answer ≡ stops ending
     pub shut : Shut ending (o .walker)
+    pub came : Came rs (o .walker)
     -- the walk of every beginning that has the bytes taken gives the same
     pub final : (m : ℕ) → w .total + o .count ≤ m → walkTo judge sh log m ≡ record { records = rs; ending = ending }
 
@@ -194,6 +204,7 @@ module _ {Shape Rec : Type 0} (judge : Judge Shape Rec) (full most : ℕ) (wrong
                 (λ i. let e : base + (w .held + n) ≡ m = omega (arith, o .place) in
                 rw e at (rest-before (w .shape) base (w .held + n) rs (o .rest (w .held + n)) (ap decided j)))
                 (sooner m);
+            went = o .went;
           })
           refl all
 
@@ -229,6 +240,16 @@ module _ {Shape Rec : Type 0} (judge : Judge Shape Rec) (full most : ℕ) (wrong
           ∙ ap (λ l. record { records = l; ending = walk judge next (w .total + n) (partOf log (w .total + n) k) .ending })
           (sym (append-assoc rs (r ∷ []) (walk judge next (w .total + n) (partOf log (w .total + n) k) .records)))
 
+      -- with the shape that it leads to
+      gives-went : (r : Rec) (next : Shape) → judge (w .shape) base (partOf log base (w .held + n)) ≡ sound r (w .held + n) next
+          → Went judge sh 0 (take (w .total + n) log) (rs ++ (r ∷ [])) next
+      gives-went r next j =
+          let a : ℕ = w .held + n in
+          let b : w .total + n ≡ base + a = omega (arith, o .place) in
+          let here : 0 + length (take base log) ≡ base = omega (arith, length-take-le base log (omega (arith, o .place, o .reach))) in
+          let len : length (partOf log base a) ≡ a = length-part log base a (omega (arith, o .place, length-p, least .within)) in
+          rw (b, take-add base a log) (went-snoc judge (o .went) (rw (here, len) j))
+
       feed-gives : (r : Rec) (m : ℕ) (next : Shape) → judge (w .shape) base (partOf log base (w .held + n)) ≡ sound r m next
           → Next rs w p (fed w (paste hold (w .held) p n) n (sound r m next))
       feed-gives r m next j =
@@ -249,6 +270,7 @@ module _ {Shape Rec : Type 0} (judge : Judge Shape Rec) (full most : ℕ) (wrong
                 (λ i. let e : w .total + n + 0 ≡ k = omega arith in
                 rw e at (rest-before next (w .total + n) 0 (rs ++ (r ∷ [])) (rest 0) (able .steady next (w .total + n) .opens)))
                 (λ i. let b = sooner k i in record { few = omega (arith, b .few, length-append rs (r ∷ [])); early = b .early });
+            went = gives-went r next (rw (gives-size r m next j) at j);
           })
           refl
           (gives-some r m next j)
@@ -269,6 +291,7 @@ module _ {Shape Rec : Type 0} (judge : Judge Shape Rec) (full most : ℕ) (wrong
             right = able .grows (w .shape) base (w .total + n) (omega (arith, o .place)) (o .fine);
           };
         };
+        came = (base, omega (arith, o .place), omega (arith, length-p, least .within), o .went);
         final = λ m h.
             let k : ℕ = m - base in
             let e : base + k ≡ m = omega (arith, o .place) in
@@ -332,6 +355,7 @@ module _ {Shape Rec : Type 0} (judge : Judge Shape Rec) (full most : ℕ) (wrong
           ranged = λ h z. let i = open-range base rs w last o h z in
               record { size = i .size; fits = i .fits; within = i .within; order = i .order; right = i .right };
         };
+        came = (base, omega (arith, o .place), o .reach, o .went);
         final = λ m h.
             let b : base ≡ start w = omega (arith, o .place) in
             ap (walk judge sh 0) (take-all m log (omega (arith, all)) ∙ sym (take-all (base + w .held) log (omega (arith, all, o .place))))

@@ -23,7 +23,7 @@ module _ {Shape Rec : Type 0} (judge : Judge Shape Rec) (full most : ℕ) (wrong
     (able : Feedable judge full wrong) where
   module _ (sh : Shape) (log : List ℕ) (short : length log ≤ most) (bs : List (Call (Walker Shape) Rec)) (c : Call (Walker Shape) Rec) where
     called-prompt : {over : Bool} {left : List ℕ} → Called judge full most wrong sh log bs c over left → Prompt judge sh log bs c
-    called-prompt (called-shut w e t told k s) =
+    called-prompt (called-shut w e t told came k s) =
         let a : outcomeOf c .answer ≡ stops e = ap (λ o. o .answer) s in
         record {
           gave = λ r g. never cc;
@@ -82,7 +82,7 @@ module _ {Shape Rec : Type 0} (judge : Judge Shape Rec) (full most : ℕ) (wrong
     -- a call that stopped left the walker shut
     stop-shuts : {over : Bool} {left : List ℕ} → Called judge full most wrong sh log bs c over left → (e : Ending) → outcomeOf c .answer ≡ stops e
         → Shut judge full most wrong sh log e (outcomeOf c .walker)
-    stop-shuts (called-shut w x t told k s) e a =
+    stop-shuts (called-shut w x t told came k s) e a =
         let i : outcomeOf c .answer ≡ stops x = ap (λ o. o .answer) s in
         let j : x ≡ e = cc in
         rw s (rw j at k)

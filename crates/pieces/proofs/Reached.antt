@@ -18,9 +18,10 @@ use Rattle.pieces.specs.Walk.{only, walk}
 use Rattle.pieces.specs.Feed.{Walker, Answer, gives, stops, wants, fresh, still, Feedable}
 use Rattle.pieces.specs.Run.{Call, tells, record?, stop?, outcomeOf, stopped, took, holding, told, feeds, closes, CallsOf, RunOf}
 use Rattle.pieces.specs.Prompt.{walkTo, pieceOf, lentTo, given}
+use Rattle.pieces.specs.Went.{stays}
 use Rattle.pieces.proofs.FeedLaws.{feed-kept, close-kept, close-still}
 use Rattle.pieces.proofs.RunLaws.{adds, stopped-append, took-append, holding-append, told-append, told-stopped}
-use Rattle.pieces.proofs.OneCall.{Open, Shut, Next, next-gives, next-wants, next-stops, Step, rest-before, feed-step, close-step}
+use Rattle.pieces.proofs.OneCall.{Open, Came, Shut, Next, next-gives, next-wants, next-stops, Step, rest-before, feed-step, close-step}
 
 module _ {Shape Rec : Type 0} (judge : Judge Shape Rec) (full most : ℕ) (wrong : ℕ → Shape → Bool) (sh : Shape) (log : List ℕ) where
   -- After the calls bs, of which one has stopped or none has, the walker is w, the hold was left as `last`, and `todo` was not taken yet.
@@ -28,14 +29,15 @@ module _ {Shape Rec : Type 0} (judge : Judge Shape Rec) (full most : ℕ) (wrong
     reached-open : {todo : List ℕ} (base : ℕ) → stopped bs ≡ false → w .total ≡ took bs → w .held ≡ holding 0 bs → drop (w .total) log ≡ todo
         → Open judge full most wrong sh log base (given bs) w last → Reached bs w last false todo
     reached-shut : {todo : List ℕ} (e : Ending) → stopped bs ≡ true → ((d : Ending) → told d bs ≡ walk judge sh 0 log)
-        → Shut judge full most wrong sh log e w → Reached bs w last true todo
+        → Came judge full most wrong sh log (given bs) w → Shut judge full most wrong sh log e w → Reached bs w last true todo
 
   -- What the call c did, after the calls bs, to the walker w.
   pub data Called (bs : List (Call (Walker Shape) Rec)) (c : Call (Walker Shape) Rec) : (ended : Bool) → (todo : List ℕ) → Type 0 where
     called-open : {todo : List ℕ} (w : Walker Shape) → stopped bs ≡ false → w .total ≡ took bs → w .held ≡ holding 0 bs → drop (w .total) log ≡ todo
         → Step judge full most wrong sh log (given bs) w (pieceOf c) (outcomeOf c) → Called bs c false todo
     called-shut : {todo : List ℕ} (w : Walker Shape) (e : Ending) → stopped bs ≡ true → ((d : Ending) → told d bs ≡ walk judge sh 0 log)
-        → Shut judge full most wrong sh log e w → outcomeOf c ≡ still w (lentTo c) e → Called bs c true todo
+        → Came judge full most wrong sh log (given bs) w → Shut judge full most wrong sh log e w → outcomeOf c ≡ still w (lentTo c) e
+        → Called bs c true todo
 
   module _ (bs : List (Call (Walker Shape) Rec)) (c : Call (Walker Shape) Rec) (f : stopped bs ≡ false) where
     -- after calls that did not stop, a call that stops or not
@@ -48,11 +50,12 @@ module _ {Shape Rec : Type 0} (judge : Judge Shape Rec) (full most : ℕ) (wrong
     given-snoc : (a : Answer Rec) → outcomeOf c .answer ≡ a → given (bs ++ (c ∷ [])) ≡ given bs ++ tells a (only (Ending.End 0 0)) .records
     given-snoc a e = ap (λ t. t .records) (told-snoc (Ending.End 0 0) a e)
 
-  -- a call leaves a state that is reached
-  called-reached : {bs : List (Call (Walker Shape) Rec)} {c : Call (Walker Shape) Rec} {ended : Bool} {todo : List ℕ} → Called bs c ended todo
+  -- A call leaves a state that is reached.
+  pub called-reached : {bs : List (Call (Walker Shape) Rec)} {c : Call (Walker Shape) Rec} {ended : Bool} {todo : List ℕ} → Called bs c ended todo
       → Reached (bs ++ (c ∷ [])) (outcomeOf c .walker) (outcomeOf c .hold) (ended || stop? (outcomeOf c .answer)) (drop (outcomeOf c .count) todo)
-  called-reached {bs} {c} (called-shut w e t f k s) =
-      reached-shut e (stopped-append (c ∷ []) bs ∙ rw t) (λ d. told-stopped (c ∷ []) d bs t ∙ f d) (rw s k)
+  called-reached {bs} {c} (called-shut w e t f g k s) =
+      let same : given (bs ++ (c ∷ [])) ≡ given bs = ap (λ x. x .records) (told-stopped (c ∷ []) (Ending.End 0 0) bs t) in
+      reached-shut e (stopped-append (c ∷ []) bs ∙ rw t) (λ d. told-stopped (c ∷ []) d bs t ∙ f d) (rw (same, s) g) (rw s k)
   called-reached {bs} {c} {ended} {todo} (called-open w f t h left s) = go (s .next)
     where
       total : outcomeOf c .walker .total ≡ took (bs ++ (c ∷ []))
@@ -80,7 +83,7 @@ module _ {Shape Rec : Type 0} (judge : Judge Shape Rec) (full most : ℕ) (wrong
           ∙ ap (λ l. record { records = l; ending = x .ending }) (append-nil (given bs))
           ∙ sym (x .final m (omega arith))
           ∙ ap (walk judge sh 0) (take-all m log (omega arith)))
-          (x .shut))
+          (rw (given-snoc bs c f (stops (x .ending)) (x .says), append-nil (given bs)) (x .came)) (x .shut))
 
   -- A walker that is shut says the same again, takes nothing and leaves the hold as it is, at every call from there on.
   pub shut-repeats : {ended : Bool} {todo : List ℕ} {w : Walker Shape} {last : List ℕ} (e : Ending) (cs : List (Call (Walker Shape) Rec))
@@ -108,11 +111,11 @@ module _ {Shape Rec : Type 0} (judge : Judge Shape Rec) (full most : ℕ) (wrong
     one-call (reached-open base f t h left o) (closes {w = w} {last = last} {hold = hold} {o = x} m l q r) =
         let none : x .count ≡ 0 = ap (λ y. y .count) q ∙ close-still judge full most wrong w hold .0 in
         (called-open w f t h left (rw q (close-step judge full most wrong sh log able short base _ w last hold (left ∙ m) o l)), rw none r)
-    one-call (reached-shut e t f k) (feeds {p = p} {w = w} {hold = hold} m l q r) =
-        (called-shut w e t f k (q ∙ feed-kept judge full most wrong w hold (k .ranged hold (l .size)) p e (k .keeps)), r)
-    one-call (reached-shut e t f k) (closes {w = w} {hold = hold} {o = x} m l q r) =
+    one-call (reached-shut e t f g k) (feeds {p = p} {w = w} {hold = hold} m l q r) =
+        (called-shut w e t f g k (q ∙ feed-kept judge full most wrong w hold (k .ranged hold (l .size)) p e (k .keeps)), r)
+    one-call (reached-shut e t f g k) (closes {w = w} {hold = hold} {o = x} m l q r) =
         let none : x .count ≡ 0 = ap (λ y. y .count) q ∙ close-still judge full most wrong w hold .0 in
-        (called-shut w e t f k (q ∙ close-kept judge full most wrong w hold (k .ranged hold (l .size)) e (k .keeps)), rw none r)
+        (called-shut w e t f g k (q ∙ close-kept judge full most wrong w hold (k .ranged hold (l .size)) e (k .keeps)), rw none r)
 
     -- the state after the first calls of what is left of a run
     reach : {ended : Bool} {todo : List ℕ} {w : Walker Shape} {last : List ℕ} (ds bs cs : List (Call (Walker Shape) Rec)) → Reached ds w last ended todo
@@ -142,6 +145,7 @@ module _ {Shape Rec : Type 0} (judge : Judge Shape Rec) (full most : ℕ) (wrong
             sofar = λ m h.
                 let e : m ≡ 0 + 0 = omega arith in
                 rw e (rest-before judge full most wrong sh log able short sh 0 0 [] (rest 0) (able .steady sh 0 .opens));
+            went = stays;
           }
 
       -- The state after the first calls of a run is reached.

@@ -16,10 +16,11 @@ use Rattle.refusal.specs.Limits.{logMost}
 use Rattle.pieces.specs.Walk.{Told, walk}
 use Rattle.record.specs.declared.Slot.{Slot}
 use Rattle.record.specs.Record.{judgeOf, openingShape}
+use Rattle.standing.specs.Serials.{numberedTold}
 use Rattle.walk.specs.declared.Walked.{Walked}
-use Rattle.walk.specs.Fill.{walkedOf, toldInto, walkedBy, slotsBy, FillSays}
+use Rattle.walk.specs.Fill.{walkedOf, bareInto, toldInto, walkedBy, slotsBy, FillSays}
 use Rattle.walk.specs.Divides.{Divides, Means}
-use Rattle.promises.specs.Answers.{Filled}
+use Rattle.promises.specs.Answers.{Numbered, Filled}
 use Rattle.walk.proofs.Means.{told, stops-walked, means}
 
 module _ (log : List ℕ) (old : List Slot) (r : Walked) (slots : List Slot) (says : FillSays log old r slots) where
@@ -37,15 +38,29 @@ module _ (log : List ℕ) (old : List Slot) (r : Walked) (slots : List Slot) (sa
   told-filled rs e q =
       (says .0 ∙ ap walkedBy q, ap (take (length rs)) (says .1 ∙ ap (λ t. slotsBy t old) q) ∙ take-append-seam rs _)
 
-  -- The walk fills the first slots with these records and ends so exactly where that is what the log is.
-  pub filled : (rs : List Slot) (e : Ending) → Filled r slots rs e ↔ Means (length old) log rs e
-  filled rs e = (λ f. means log (says .2) (length old) rs e .0 (filled-told rs e f), λ m. told-filled rs e (means log (says .2) (length old) rs e .1 m))
+  -- what the walk tells without the serials is what the log is
+  meant : (rs : List Slot) (e : Ending) → (toldInto (length old) log ≡ told rs e) ↔ Numbered (λ bare. Means (length old) log bare e) rs
+  unfolding toldInto
+  meant rs e = (to, back)
+    where
+      to : toldInto (length old) log ≡ told rs e → Numbered (λ bare. Means (length old) log bare e) rs
+      to q =
+          let bare = bareInto (length old) log in
+          let same : bareInto (length old) log ≡ told (bare .records) e = ap (told (bare .records)) (ap (λ (t : Told Slot). t .ending) q) in
+          (bare .records, sym (ap (λ (t : Told Slot). t .records) q), means log (says .2) (length old) (bare .records) e .0 same)
+
+      back : Numbered (λ bare. Means (length old) log bare e) rs → toldInto (length old) log ≡ told rs e
+      back (bare, same, m) = ap numberedTold (means log (says .2) (length old) bare e .1 m) ∙ ap (λ l. told l e) (sym same)
+
+  -- The walk fills the first slots with these records and ends so exactly where that is what the log is, and the serials are theirs.
+  pub filled : (rs : List Slot) (e : Ending) → Filled r slots rs e ↔ Numbered (λ bare. Means (length old) log bare e) rs
+  filled rs e = (λ f. meant rs e .0 (filled-told rs e f), λ m. told-filled rs e (meant rs e .1 m))
 
   -- ACCEPTANCE. The walk ends at `at` with a tail, and the slots hold these records, if and only if the log has at most 65,536 bytes, there
-  -- are slots enough, and the log is these well-formed records up to `at` and then so many bytes, at most three.
+  -- are slots enough, and the log is these well-formed records up to `at` and then so many bytes, at most three; each record has its serial.
   pub accepted : (rs : List Slot) (at tail : ℕ)
       → ((r ≡ walkedOf (length rs) (Ending.End at tail)) × (take (length rs) slots ≡ rs))
-      ↔ ((length log ≤ logMost) × (length rs ≤ length old) × Divides log rs at tail)
+      ↔ Numbered (λ bare. (length log ≤ logMost) × (length bare ≤ length old) × Divides log bare at tail) rs
   accepted rs at tail = filled rs (Ending.End at tail)
 
   -- a division is what the walk tells

@@ -3,9 +3,10 @@ use mathlib.Core.Path.{refl}
 use Rattle.contents.proofs.Cases.{computing as dataComputing}
 use Rattle.record.proofs.Cases.{computing as recordComputing}
 use Rattle.pieces.specs.Walk.{walkF, walk, wholeWalk}
+use Rattle.standing.specs.Serials.{howMany, numbered}
 use Rattle.promises.specs.Bench.{listedOf, starred, Each}
 
 pub bench : Each starred
-unfolding dataComputing recordComputing walkF walk wholeWalk listedOf
+unfolding dataComputing recordComputing walkF walk wholeWalk howMany numbered listedOf
 bench =
     (refl, (refl, (refl, (refl, (refl, (refl, (refl, (refl, (refl, (refl, (refl, (refl, (refl, (refl, (refl, (refl, tt))))))))))))))))

@@ -13,7 +13,7 @@ use Rattle.record.proofs.Cases.{computing as recordComputing}
 use Rattle.pieces.specs.Slots.{into}
 use Rattle.pieces.specs.Walk.{walkF, walk, wholeWalk}
 use Rattle.record.specs.declared.Slot.{Slot}
-use Rattle.walk.specs.Fill.{toldInto}
+use Rattle.walk.specs.Fill.{bareInto}
 use Rattle.promises.specs.Bench.{one, specId, markerOf}
 use Rattle.walk.specs.Divides.{Divides}
 use Rattle.walk.proofs.Means.{told, means}
@@ -25,17 +25,17 @@ log =
     ++ replicate 3 9
 
 abbrev marker : Slot
-marker = record { start = 0; register = 0; event = 3; «digest_place» = 8; digests = 1; «data» = spanOf 32 37; contents = markerOf 2 69 }
+marker = record { start = 0; register = 0; event = 3; «digest_place» = 8; digests = 1; serial = 0; «data» = spanOf 32 37; contents = markerOf 2 69 }
 
 abbrev second : Slot
-second = record { start = 69; register = 7; event = 6; «digest_place» = 81; digests = 2; «data» = spanOf 141 1; contents = Contents.Empty }
+second = record { start = 69; register = 7; event = 6; «digest_place» = 81; digests = 2; serial = 0; «data» = spanOf 141 1; contents = Contents.Empty }
 
 is-bytes : Bytes log
 unfolding dataComputing
 is-bytes = small-bytes log refl
 
-walked : toldInto 2 log ≡ told (marker ∷ second ∷ []) (Ending.End 142 3)
-unfolding dataComputing recordComputing walkF walk wholeWalk into toldInto
+walked : bareInto 2 log ≡ told (marker ∷ second ∷ []) (Ending.End 142 3)
+unfolding dataComputing recordComputing walkF walk wholeWalk into bareInto
 walked = refl
 
 pub divides : Divides log (marker ∷ second ∷ []) 142 3

@@ -12,7 +12,8 @@ use lib.ListN.{length, take, drop, replicate, length-append}
 use Rattle.refusal.specs.declared.Ending.{Ending}
 use Rattle.refusal.specs.Limits.{holdFull}
 use Rattle.contents.proofs.Cases.{computing as dataComputing}
-use Rattle.record.proofs.Cases.{computing as recordComputing}
+use Rattle.standing.specs.Standing.{anyAbove}
+use Rattle.walk.proofs.Cases.{computing as walkComputing}
 use Rattle.pieces.specs.Taken.{taken}
 use Rattle.pieces.specs.Feed.{gives, stops, wants, Outcome}
 use Rattle.pieces.specs.Run.{fedCall, closeCall, rests, feeds, closes}
@@ -31,28 +32,29 @@ separator = one 4 (replicate 4 0)
 
 -- a walker that is open, at the log's start or behind its first record
 abbrev before : ℕ → ℕ → Walker
-before held total = walker held total Kind.First Kept.Open
+before held total = walker held total Kind.First Kept.Open 0
 
-abbrev behind : ℕ → ℕ → Walker
-behind held total = walker held total Kind.Sha1 Kept.Open
+-- behind so many records
+abbrev behind : ℕ → ℕ → ℕ → Walker
+behind n held total = walker held total Kind.Sha1 Kept.Open n
 
 -- ---- all at once
 
 module _ (h₁ h₂ : List ℕ) (full₁ : holdFull ≤ length h₁) (full₂ : holdFull ≤ length h₂) where
   -- the 36 bytes are taken, and stand at the hold's front
   abbrev taken₁ : Outcome Walker Slot
-  taken₁ = record { answer = gives (slotAt 0 8 32); count = 36; walker = behind 0 36; hold = separator ++ drop 36 h₁ }
+  taken₁ = record { answer = gives (slotAt 0 8 32 0); count = 36; walker = behind 1 0 36; hold = separator ++ drop 36 h₁ }
 
   abbrev closed₁ : Outcome Walker Slot
-  closed₁ = record { answer = stops (Ending.End 36 0); count = 0; walker = walker 0 36 Kind.Sha1 (Kept.Stopped (Ending.End 36 0)); hold = h₂ }
+  closed₁ = record { answer = stops (Ending.End 36 0); count = 0; walker = walker 0 36 Kind.Sha1 (Kept.Stopped (Ending.End 36 0)) 1; hold = h₂ }
 
   feed₁ : Feeds freshWalker h₁ separator taken₁
-  unfolding dataComputing recordComputing taken
-  feed₁ = feed-says freshWalker h₁ full₁ (omega arith) (omega arith) refl refl separator (omega arith)
+  unfolding walkComputing taken anyAbove
+  feed₁ = feed-says freshWalker h₁ full₁ (omega arith) (omega arith) refl refl refl separator (omega arith)
 
-  close₁ : Closes (behind 0 36) h₂ closed₁
-  unfolding dataComputing recordComputing
-  close₁ = (close-says (behind 0 36) h₂ full₂ (omega arith) (omega arith) refl refl, refl)
+  close₁ : Closes (behind 1 0 36) h₂ closed₁
+  unfolding walkComputing anyAbove
+  close₁ = (close-says (behind 1 0 36) h₂ full₂ (omega arith) (omega arith) refl refl refl, refl)
 
   pub at-once : Run separator freshWalker h₁ (fedCall separator h₁ taken₁ ∷ closeCall h₂ closed₁ ∷ [])
   unfolding dataComputing
@@ -85,36 +87,36 @@ module _ (h₁ j₂ h₃ j₄ h₅ : List ℕ) (full₁ : holdFull ≤ length h�
   ten = record { answer = wants; count = 10; walker = before 10 10; hold = take 10 separator ++ drop 10 h₁ }
 
   abbrev first : Outcome Walker Slot
-  first = record { answer = gives (slotAt 0 8 32); count = 26; walker = behind 0 36; hold = separator ++ drop 26 j₂ }
+  first = record { answer = gives (slotAt 0 8 32 0); count = 26; walker = behind 1 0 36; hold = separator ++ drop 26 j₂ }
 
   abbrev five : Outcome Walker Slot
-  five = record { answer = wants; count = 5; walker = behind 5 41; hold = take 5 separator ++ drop 5 h₃ }
+  five = record { answer = wants; count = 5; walker = behind 1 5 41; hold = take 5 separator ++ drop 5 h₃ }
 
   abbrev second : Outcome Walker Slot
-  second = record { answer = gives (slotAt 36 44 68); count = 31; walker = behind 0 72; hold = separator ++ drop 31 j₄ }
+  second = record { answer = gives (slotAt 36 44 68 1); count = 31; walker = behind 2 0 72; hold = separator ++ drop 31 j₄ }
 
   abbrev end : Outcome Walker Slot
-  end = record { answer = stops (Ending.End 72 0); count = 0; walker = walker 0 72 Kind.Sha1 (Kept.Stopped (Ending.End 72 0)); hold = h₅ }
+  end = record { answer = stops (Ending.End 72 0); count = 0; walker = walker 0 72 Kind.Sha1 (Kept.Stopped (Ending.End 72 0)) 2; hold = h₅ }
 
   feed-ten : Feeds freshWalker h₁ (take 10 separator) ten
-  unfolding dataComputing recordComputing taken
-  feed-ten = feed-says freshWalker h₁ full₁ (omega arith) (omega arith) refl refl (take 10 separator) (omega arith)
+  unfolding walkComputing taken anyAbove
+  feed-ten = feed-says freshWalker h₁ full₁ (omega arith) (omega arith) refl refl refl (take 10 separator) (omega arith)
 
   feed-first : Feeds (before 10 10) h₂ (drop 10 two) first
-  unfolding dataComputing recordComputing taken
-  feed-first = feed-says (before 10 10) h₂ size₂ (omega arith) (omega arith) refl refl (drop 10 two) (omega arith)
+  unfolding walkComputing taken anyAbove
+  feed-first = feed-says (before 10 10) h₂ size₂ (omega arith) (omega arith) refl refl refl (drop 10 two) (omega arith)
 
-  feed-five : Feeds (behind 0 36) h₃ (take 5 separator) five
-  unfolding dataComputing recordComputing taken
-  feed-five = feed-says (behind 0 36) h₃ full₃ (omega arith) (omega arith) refl refl (take 5 separator) (omega arith)
+  feed-five : Feeds (behind 1 0 36) h₃ (take 5 separator) five
+  unfolding walkComputing taken anyAbove
+  feed-five = feed-says (behind 1 0 36) h₃ full₃ (omega arith) (omega arith) refl refl refl (take 5 separator) (omega arith)
 
-  feed-second : Feeds (behind 5 41) h₄ (drop 5 separator) second
-  unfolding dataComputing recordComputing taken
-  feed-second = feed-says (behind 5 41) h₄ size₄ (omega arith) (omega arith) refl refl (drop 5 separator) (omega arith)
+  feed-second : Feeds (behind 1 5 41) h₄ (drop 5 separator) second
+  unfolding walkComputing taken anyAbove
+  feed-second = feed-says (behind 1 5 41) h₄ size₄ (omega arith) (omega arith) refl refl refl (drop 5 separator) (omega arith)
 
-  close-end : Closes (behind 0 72) h₅ end
-  unfolding dataComputing recordComputing
-  close-end = (close-says (behind 0 72) h₅ full₅ (omega arith) (omega arith) refl refl, refl)
+  close-end : Closes (behind 2 0 72) h₅ end
+  unfolding walkComputing anyAbove
+  close-end = (close-says (behind 2 0 72) h₅ full₅ (omega arith) (omega arith) refl refl refl, refl)
 
   pub cut-anew : Run two freshWalker h₁
       (fedCall (take 10 separator) h₁ ten

@@ -27,6 +27,7 @@ use Rattle.record.specs.Record.{shapeOf, openingShape}
 use Rattle.record.specs.Whole.{Lies}
 use Rattle.record.proofs.Cases.{computing as recordComputing}
 use Rattle.walk.specs.declared.Walked.{Walked}
+use Rattle.standing.specs.Serials.{howMany, numbered}
 use Rattle.walk.specs.Fill.{walkedOf, FillSays}
 use Rattle.walk.specs.Divides.{Divides, none, next}
 use Rattle.promises.specs.Answers.{recordsOf}
@@ -40,7 +41,7 @@ log = one 4 (replicate 4 0) ++ (7 ∷ [])
 
 -- a slot that no record has
 abbrev blank : Slot
-blank = record { start = 7; register = 7; event = 7; «digest_place» = 7; digests = 7; «data» = spanOf 7 7; contents = Contents.Empty }
+blank = record { start = 7; register = 7; event = 7; «digest_place» = 7; digests = 7; serial = 0; «data» = spanOf 7 7; contents = Contents.Empty }
 
 abbrev pub only : Slot
 only = firstSlot 4 4 (Contents.Separator Separated.Uefi)
@@ -85,11 +86,12 @@ empty-divides = record { front = []; rest = []; last = openingShape; begins = re
 
 -- a walk of the log over one slot must end so
 log-accepted : (r : Walked) (slots : List Slot) → FillSays log (blank ∷ []) r slots → r ≡ walkedOf 1 (Ending.End 36 1)
-unfolding bytesOf
-log-accepted r slots says = accepted log (blank ∷ []) r slots says (only ∷ []) 36 1 .1 (omega arith, omega arith, log-divides) .0
+unfolding bytesOf howMany numbered
+log-accepted r slots says = accepted log (blank ∷ []) r slots says (only ∷ []) 36 1 .1 (only ∷ [], refl, (omega arith, omega arith, log-divides)) .0
 
 empty-accepted : (r : Walked) (slots : List Slot) → FillSays [] (blank ∷ []) r slots → r ≡ walkedOf 0 (Ending.End 0 0)
-empty-accepted r slots says = accepted [] (blank ∷ []) r slots says [] 0 0 .1 (omega arith, omega arith, empty-divides) .0
+unfolding numbered
+empty-accepted r slots says = accepted [] (blank ∷ []) r slots says [] 0 0 .1 ([], refl, (omega arith, omega arith, empty-divides)) .0
 
 -- A program that refuses everything, whatever it says of slots, number and place.
 pub refuses-everything : (n : ℕ) (x : Refusal) (slots : List Slot) → FillSays log (blank ∷ []) (walkedOf n (Ending.Refused x)) slots → ⊥
@@ -103,7 +105,7 @@ one-answer-for-all r slots slots′ says says′ = never (ap (λ y. y .filled) (
 -- ---- by the slot rules
 
 log-records : recordsOf log ≡ only ∷ []
-unfolding dataComputing recordComputing walkF walk wholeWalk
+unfolding dataComputing recordComputing walkF walk wholeWalk howMany numbered
 log-records = refl
 
 -- however many of the slots are filled, the first one is blank

@@ -25,7 +25,8 @@ use Rattle.pieces.proofs.WalkLaws.{wholeWalk-fits, wholeWalk-long}
 use Rattle.record.specs.declared.Slot.{Slot}
 use Rattle.record.specs.Record.{judgeOf, openingShape}
 use Rattle.walk.specs.declared.Walked.{Walked}
-use Rattle.walk.specs.Fill.{toldInto, recordsMost, FillSays}
+use Rattle.standing.specs.Serials.{numberedTold, wholeTold}
+use Rattle.walk.specs.Fill.{bareInto, toldInto, recordsMost, FillSays}
 use Rattle.walk.proofs.ChainLaws.{Stops, walk-ends}
 use Rattle.walk.proofs.CountLaws.{records-few}
 use Rattle.walker.specs.declared.Walker.{Walker}
@@ -37,11 +38,13 @@ use Rattle.promises.proofs.Pieces.{pieces-agree, pieces-closed}
 
 module _ (log : List ℕ) (old : List Slot) (r : Walked) (slots : List Slot) (says : FillSays log old r slots) (enough : recordsMost ≤ length old) where
   abbrev whole : Told Slot
-  whole = wholeWalk judgeOf logMost openingShape log
+  whole = wholeTold log
 
   told-whole : toldInto (length old) log ≡ whole
-  unfolding toldInto into
-  told-whole = fit-all (λ slot. slot .start) (length old) (whole .records) (whole .ending) (omega (arith, records-few log (says .2), enough))
+  unfolding toldInto bareInto into
+  told-whole =
+      let bare = wholeWalk judgeOf logMost openingShape log in
+      ap numberedTold (fit-all (λ slot. slot .start) (length old) (bare .records) (bare .ending) (omega (arith, records-few log (says .2), enough)))
 
   -- The walk fills the first slots with every record of the log, and ends as the log does.
   pub enough-slots : Filled r slots (recordsOf log) (whole .ending)

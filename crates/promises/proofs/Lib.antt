@@ -2,6 +2,7 @@
 --   Acceptance, Refusals, Slots   a walk into slots (demands 1 and 2)
 --   ByTurns, Readers              the walk by turns; the readers on what a walk accepted
 --   Pieces, OwnAnswers, Range     feeding by pieces (demand 3)
+--   Standing                      serials, counts and tallies (document 02, Req 03)
 --   Joined                        both: what a walk into slots says and what any run tells
 --   Writing, WritingByNumber      records and logs that are written (document 02, Req 01)
 --   OneOutcome                    each promise leaves one outcome
@@ -21,6 +22,7 @@ pub mod ByTurns
 pub mod RunLaws
 pub mod Readers
 pub mod Pieces
+pub mod Standing
 pub mod Joined
 pub mod ExampleRun
 pub mod IdleFeeds

@@ -10,10 +10,11 @@ use mathlib.Core.List.{List, [], _++_, append-assoc, append-nil}
 use Rattle.pieces.specs.Walk.{Told}
 use Rattle.record.specs.declared.Slot.{Slot}
 use Rattle.record.specs.declared.Turn.{Turn}
+use Rattle.standing.specs.Standing.{Standing, noneYet}
 use Rattle.walk.specs.declared.Cursor.{Cursor}
-use Rattle.walk.specs.Turn.{openingCursor, turnOf}
+use Rattle.walk.specs.Turn.{openingCursor, Moved, turnOf}
 use Rattle.walk.proofs.TurnLaws.{tells}
-use Rattle.walk.proofs.FillLaws.{restFrom, rest-opens, rest-turn}
+use Rattle.walk.proofs.FillLaws.{restFrom, rest-opens, rest-turn, whole-numbered}
 use Rattle.lines.specs.declared.Head.{Head}
 use Rattle.lines.specs.Listing.{recordLine, recordLines, lastLine, turnLine, headAfter, headBy, headLine, listingBy, listingOf}
 
@@ -36,19 +37,21 @@ tells-head (Turn.Stop e) rest = refl
 
 module _ (log : List ℕ) where
   -- The lines from a cursor on are the line of the turn there, and after a record those from the next cursor on.
-  pub lines-turn : (c : Cursor) (index : ℕ)
-      → linesOf index (restFrom log c) ≡ turnLine index (turnOf log c .turn) ++ following (turnOf log c .turn) (linesOf (suc index) (restFrom log (turnOf log c .next)))
-  lines-turn c index = ap (linesOf index) (rest-turn log c) ∙ tells-lines (turnOf log c .turn) index (restFrom log (turnOf log c .next))
+  pub lines-turn : (c : Cursor) (st : Standing) (index : ℕ)
+      → let m : Moved = turnOf log c st in
+      linesOf index (restFrom log c (st .counts))
+      ≡ turnLine index (m .turned .turn) ++ following (m .turned .turn) (linesOf (suc index) (restFrom log (m .turned .next) (m .standing .counts)))
+  lines-turn c st index = ap (linesOf index) (rest-turn log c st) ∙ tells-lines (turnOf log c st .turned .turn) index _
 
   -- The listing is the word of the first turn, and the lines from the opening on.
-  pub listing-turns : listingOf log ≡ headLine (headAfter (turnOf log openingCursor .turn)) ++ linesOf 0 (restFrom log openingCursor)
+  pub listing-turns : listingOf log
+      ≡ headLine (headAfter (turnOf log openingCursor noneYet .turned .turn)) ++ linesOf 0 (restFrom log openingCursor (noneYet .counts))
   unfolding listingOf
   listing-turns =
-      let told = restFrom log openingCursor in
-      let first = turnOf log openingCursor in
-      let head : headBy (told .records) (told .ending) ≡ headAfter (first .turn) =
-      ap (λ (t : Told Slot). headBy (t .records) (t .ending)) (rest-turn log openingCursor)
-      ∙ tells-head (first .turn) (restFrom log (first .next)) in
-      ap listingBy (sym (rest-opens log))
+      let told = restFrom log openingCursor (noneYet .counts) in
+      let first = turnOf log openingCursor noneYet .turned .turn in
+      let head : headBy (told .records) (told .ending) ≡ headAfter first =
+      ap (λ (t : Told Slot). headBy (t .records) (t .ending)) (rest-turn log openingCursor noneYet) ∙ tells-head first _ in
+      ap listingBy (sym (rest-opens log (noneYet .counts) ∙ whole-numbered log))
       ∙ append-assoc (headLine (headBy (told .records) (told .ending))) (recordLines 0 (told .records)) (lastLine (told .ending))
       ∙ ap (λ (h : Head). headLine h ++ linesOf 0 told) head

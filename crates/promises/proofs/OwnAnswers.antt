@@ -18,14 +18,15 @@ use Rattle.refusal.specs.Endings.{refusedWith}
 use Rattle.refusal.specs.Refusals.{Origin}
 use Rattle.refusal.specs.Limits.{logMost, holdFull}
 use Rattle.pieces.specs.Verdict.{Verdict, more, sound, refused}
+use Rattle.pieces.specs.Account.{With}
 use Rattle.pieces.specs.Feed.{Outcome, outOfRange, feedOf, closeOf, fed, closed}
 use Rattle.pieces.specs.Feed as F
 use Rattle.pieces.proofs.FeedLaws.{passed-range, feed-out, feed-long, feed-passed, close-out, close-passed}
 use Rattle.record.specs.declared.Shape.{Shape}
 use Rattle.record.specs.declared.Slot.{Slot}
-use Rattle.record.specs.Record.{judgeOf}
+use Rattle.standing.specs.Standing.{Standing, countedJudge}
+use Rattle.standing.proofs.CountedLaws.{counted-why}
 use Rattle.record.specs.Met.{OfRecord}
-use Rattle.record.proofs.WhyLaws.{record-why}
 use Rattle.walker.specs.declared.Answer.{Answer}
 use Rattle.walker.specs.declared.Kept.{Kept}
 use Rattle.walker.specs.declared.Reply.{Reply}
@@ -33,39 +34,39 @@ use Rattle.walker.specs.declared.Walker.{Walker}
 use Rattle.walker.specs.Walker.{keptOf, walkerOf, answerBy, wrong, feedTo, closeTo, FeedSays, CloseSays}
 use Rattle.promises.specs.Answers.{OfFeed, OfClose}
 
-abbrev answered : Outcome (F.Walker Shape) Slot → Answer
+abbrev answered : Outcome (F.Walker (With Shape Standing)) Slot → Answer
 answered o = answerBy (o .answer)
 
 -- what a judge refuses is of a record
-abbrev Refusing : Verdict Shape Slot → Type 0
+abbrev Refusing : Verdict (With Shape Standing) Slot → Type 0
 Refusing v = (r : Refusal) → v ≡ refused r → OfRecord (r .why)
 
-module _ (w : F.Walker Shape) (hold : List ℕ) where
-  fed-own : (hold′ : List ℕ) (n : ℕ) (v : Verdict Shape Slot) → Refusing v → OfFeed (answered (fed w hold′ n v))
+module _ (w : F.Walker (With Shape Standing)) (hold : List ℕ) where
+  fed-own : (hold′ : List ℕ) (n : ℕ) (v : Verdict (With Shape Standing) Slot) → Refusing v → OfFeed (answered (fed w hold′ n v))
   fed-own hold′ n (more s e) h = tt
   fed-own hold′ n (sound slot m next) h = tt
   fed-own hold′ n (refused r) h = inl (h r refl)
 
-  closed-own : (p : List ℕ) (v : Verdict Shape Slot) → Refusing v → OfClose (answered (closed w hold p v))
+  closed-own : (p : List ℕ) (v : Verdict (With Shape Standing) Slot) → Refusing v → OfClose (answered (closed w hold p v))
   closed-own p (more zero e) h = tt
   closed-own p (more (suc s) e) h = inr (inl refl)
   closed-own p (sound slot m next) h = tt
   closed-own p (refused r) h = inl (h r refl)
 
   module _ (k : w .kept ≡ none) where
-    feeds : (piece : List ℕ) → OfFeed (answered (feedOf judgeOf holdFull logMost wrong w hold piece))
-    feeds piece = test (outOfRange judgeOf holdFull logMost wrong w hold)
-        (λ out. rw (feed-out judgeOf holdFull logMost wrong w hold piece out) (inr refl))
-        (λ passed. let i = passed-range judgeOf holdFull logMost wrong w hold passed in
+    feeds : (piece : List ℕ) → OfFeed (answered (feedOf countedJudge holdFull logMost wrong w hold piece))
+    feeds piece = test (outOfRange countedJudge holdFull logMost wrong w hold)
+        (λ out. rw (feed-out countedJudge holdFull logMost wrong w hold piece out) (inr refl))
+        (λ passed. let i = passed-range countedJudge holdFull logMost wrong w hold passed in
         split (w .total + length piece) logMost
-        (λ fits. rw (feed-passed judgeOf holdFull logMost wrong w hold i piece k fits) (fed-own _ _ _ (record-why _ _ _)))
-        (λ long. rw (feed-long judgeOf holdFull logMost wrong w hold i piece k long) (inr refl)))
+        (λ fits. rw (feed-passed countedJudge holdFull logMost wrong w hold i piece k fits) (fed-own _ _ _ (counted-why _ _ _)))
+        (λ long. rw (feed-long countedJudge holdFull logMost wrong w hold i piece k long) (inr refl)))
 
-    closes : OfClose (answered (closeOf judgeOf holdFull logMost wrong w hold))
-    closes = test (outOfRange judgeOf holdFull logMost wrong w hold)
-        (λ out. rw (close-out judgeOf holdFull logMost wrong w hold out) (inr (inr refl)))
-        (λ passed. rw (close-passed judgeOf holdFull logMost wrong w hold (passed-range judgeOf holdFull logMost wrong w hold passed) k)
-        (closed-own _ _ (record-why _ _ _)))
+    closes : OfClose (answered (closeOf countedJudge holdFull logMost wrong w hold))
+    closes = test (outOfRange countedJudge holdFull logMost wrong w hold)
+        (λ out. rw (close-out countedJudge holdFull logMost wrong w hold out) (inr (inr refl)))
+        (λ passed. rw (close-passed countedJudge holdFull logMost wrong w hold (passed-range countedJudge holdFull logMost wrong w hold passed) k)
+        (closed-own _ _ (counted-why _ _ _)))
 
 pub feed-own : (w : Walker) (hold piece : List ℕ) (reply : Reply) (w′ : Walker) (hold′ : List ℕ) → FeedSays w hold piece reply w′ hold′ → w .kept ≡ Kept.Open
     → OfFeed (reply .answer)

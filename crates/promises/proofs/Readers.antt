@@ -4,9 +4,9 @@
 --   gpt-read, gpt-past       `gpt::read` on the slot's data gives an entry exactly for the indexes below its entry count, and nothing past them
 -- `readOf` of `path` and of `gpt` are the promises of the readers. Assumes nothing.
 use Prim.Native.Nat.{ℕ, suc, _+_, _≤_, _<_}
-use mathlib.Core.Path.{_≡_, sym, ap, _∙_}
+use mathlib.Core.Path.{_≡_, sym, ap, subst, _∙_}
 use mathlib.Core.Bool.{Bool, true, false}
-use mathlib.Core.List.{List, _∷_, _++_, append-assoc}
+use mathlib.Core.List.{List, [], _∷_, _++_, append-assoc}
 use mathlib.Core.Logic.{_↔_}
 use native.Mathlib.Omega.{arith}
 use native.Mathlib.Nat.{zero-add}
@@ -32,13 +32,15 @@ use Rattle.contents.specs.declared.Judged.{Judged}
 use Rattle.contents.specs.Contents.{contentsOf}
 use Rattle.contents.proofs.HoldsLaws.{contents-holds}
 use Rattle.contents.proofs.ReaderLaws.{image-nodes, image-nothing, gpt-entries, gpt-nothing}
-use Rattle.pieces.specs.Walk.{Told}
+use Rattle.pieces.specs.Walk.{Told, wholeWalk}
 use Rattle.pieces.proofs.WalkLaws.{wholeWalk-fits, wholeWalk-long}
 use Rattle.record.specs.declared.Shape.{Shape}
 use Rattle.record.specs.declared.Slot.{Slot}
 use Rattle.record.specs.Record.{isMarker, judgeOf, openingShape}
 use Rattle.record.specs.Whole.{dataAt, ContainsAs, Lies}
 use Rattle.walk.specs.declared.Walked.{Walked}
+use Rattle.standing.specs.Serials.{numberOf}
+use Rattle.standing.proofs.SerialLaws.{numbered-length, numbered-at}
 use Rattle.walk.specs.Fill.{FillSays}
 use Rattle.walk.proofs.ChainLaws.{chain-split, walk-ends}
 use Rattle.promises.specs.Answers.{recordsOf}
@@ -98,25 +100,43 @@ module _ (log : List ℕ) (old : List Slot) (r : Walked) (slots : List Slot) (sa
       ∙ ap (λ l. getD l k blank) (slots-filled log old r slots says)
       ∙ getD-take (length old) (recordsOf log) k blank (omega (arith, filled, within))
 
-  split-at : recordsOf log ≡ take k (recordsOf log) ++ (slot ∷ drop (suc k) (recordsOf log))
-  split-at = sym (take-append-drop k (recordsOf log)) ∙ ap (λ l. take k (recordsOf log) ++ l) (drop-cons (recordsOf log) k blank many ∙ ap (λ s. s ∷ drop (suc k) (recordsOf log)) (sym held))
+  -- the records without their serials
+  abbrev bares : List Slot
+  bares = wholeWalk judgeOf logMost openingShape log .records
 
-  slot-contents : Plain (slot .contents)
-      → contentsOf (typeOf (slot .event)) (partOf log (slot .«data» .at) (slot .«data» .len)) (slot .«data» .at) ≡ Judged.Sound (slot .contents)
-  slot-contents = split (length log) logMost short long
+  many-bare : k < length bares
+  many-bare = omega (arith, many, numbered-length [] bares)
+
+  -- record k, without its serial
+  abbrev bare : Slot
+  bare = getD bares k blank
+
+  numbered-slot : (n : ℕ) × (slot ≡ numberOf n bare)
+  numbered-slot = let (n, e) = numbered-at [] bares k blank many-bare in (n, held ∙ e)
+
+  split-at : bares ≡ take k bares ++ (bare ∷ drop (suc k) bares)
+  split-at = sym (take-append-drop k bares) ∙ ap (λ l. take k bares ++ l) (drop-cons bares k blank many-bare)
+
+  abbrev Contained : Slot → Type 0
+  Contained s = Plain (s .contents) → contentsOf (typeOf (s .event)) (partOf log (s .«data» .at) (s .«data» .len)) (s .«data» .at) ≡ Judged.Sound (s .contents)
+
+  bare-contents : Contained bare
+  bare-contents = split (length log) logMost short long
     where
-      long : logMost < length log → Plain (slot .contents) → contentsOf (typeOf (slot .event)) (partOf log (slot .«data» .at) (slot .«data» .len)) (slot .«data» .at) ≡ Judged.Sound (slot .contents)
-      long h = absurd (omega (arith, many, ap (λ (t : Told Slot). length (t .records)) (wholeWalk-long judgeOf logMost openingShape log h)))
+      long : logMost < length log → Contained bare
+      long h = absurd (omega (arith, many-bare, ap (λ (t : Told Slot). length (t .records)) (wholeWalk-long judgeOf logMost openingShape log h)))
 
-      short : length log ≤ logMost → Plain (slot .contents)
-          → contentsOf (typeOf (slot .event)) (partOf log (slot .«data» .at) (slot .«data» .len)) (slot .«data» .at) ≡ Judged.Sound (slot .contents)
+      short : length log ≤ logMost → Contained bare
       short h =
           let e = walk-ends openingShape 0 log (says .2) in
           let all = ap (λ (t : Told Slot). t .records) (sym (wholeWalk-fits judgeOf logMost openingShape log h)) ∙ split-at in
-          let s = chain-split (e .chain) (take k (recordsOf log)) slot (drop (suc k) (recordsOf log)) all in
+          let s = chain-split (e .chain) (take k bares) bare (drop (suc k) bares) all in
           record-contents log (s .front) (s .x) (s .rest ++ e .rest) (says .2)
           (e .whole ∙ ap (λ l. l ++ e .rest) (s .whole) ∙ simp append-assoc)
-          (s .last) (s .after) slot (rw (zero-add (length (s .front))) at (s .lies))
+          (s .last) (s .after) bare (rw (zero-add (length (s .front))) at (s .lies))
+
+  slot-contents : Contained slot
+  slot-contents = subst Contained (sym (numbered-slot .1)) bare-contents
 
   -- ---- an image
 

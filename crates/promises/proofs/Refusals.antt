@@ -1,5 +1,5 @@
 -- Every refusal of a walk into slots is explained: each row of document 01's table as an "if and only if", for every log and any number of
--- slots. rs are the records that were handed out. Where the refusal is of the log itself (2 to 11) they are the longest chain of well-formed
+-- slots. rs are the records that were handed out, each with its serial (`Numbered`). Where the refusal is of the log itself (2 to 11) they are the longest chain of well-formed
 -- records that begins it.
 --   refused-too-long (1), refused-cut (2), refused-too-far (3), refused-unknown (4), refused-unsound (5 to 11), refused-no-slot (12)
 --   longest           no chain of well-formed records that begins the log goes further
@@ -22,7 +22,7 @@ use Rattle.walk.specs.declared.Walked.{Walked}
 use Rattle.walk.specs.Fill.{FillSays}
 use Rattle.walk.specs.Divides.{Begins, Broken, Crowded, MeansBy}
 use Rattle.walk.proofs.Means.{begun, stops-walked}
-use Rattle.promises.specs.Answers.{Filled, Breaks}
+use Rattle.promises.specs.Answers.{Numbered, Filled, Breaks}
 use Rattle.promises.proofs.Acceptance.{filled}
 
 module _ (log : List ℕ) (old : List Slot) (r : Walked) (slots : List Slot) (says : FillSays log old r slots) (rs : List Slot) (at : ℕ) where
@@ -30,10 +30,10 @@ module _ (log : List ℕ) (old : List Slot) (r : Walked) (slots : List Slot) (sa
   Refused why = Filled r slots rs (refusedWith why at)
 
   abbrev Broke : Why → Type 0
-  Broke why = Breaks log old rs why at
+  Broke why = Numbered (λ bare. Breaks log old bare why at) rs
 
   -- 1: the log has more than 65,536 bytes. Nothing was looked at, and the offset is 65,536.
-  pub refused-too-long : Refused Why.LogTooLong ↔ ((logMost < length log) × (rs ≡ []) × (at ≡ logMost))
+  pub refused-too-long : Refused Why.LogTooLong ↔ Numbered (λ bare. (logMost < length log) × (bare ≡ []) × (at ≡ logMost)) rs
   refused-too-long = filled log old r slots says rs (refusedWith Why.LogTooLong at)
 
   -- 2: after rs the fields of a record are whole up to one, not the first, that ends within 32,768 of the record's start and past the log.
@@ -50,16 +50,16 @@ module _ (log : List ℕ) (old : List Slot) (r : Walked) (slots : List Slot) (sa
 
   -- 5 to 11: after rs follows a whole record, and this is what is wrong with its data, and where.
   pub refused-unsound : (why : Why) → OfContents why → Refused why ↔ Broke why
-  refused-unsound why h = subst (λ o. Refused why ↔ MeansBy (length old) log rs o why at) h (filled log old r slots says rs (refusedWith why at))
+  refused-unsound why h = subst (λ o. Refused why ↔ Numbered (λ bare. MeansBy (length old) log bare o why at) rs) h (filled log old r slots says rs (refusedWith why at))
 
   -- 12: every slot was filled, and after rs another well-formed record starts at the offset.
-  pub refused-no-slot : Refused Why.NoSlot ↔ ((length log ≤ logMost) × (length rs ≡ length old) × Crowded log rs at)
+  pub refused-no-slot : Refused Why.NoSlot ↔ Numbered (λ bare. (length log ≤ logMost) × (length bare ≡ length old) × Crowded log bare at) rs
   refused-no-slot = filled log old r slots says rs (refusedWith Why.NoSlot at)
 
   -- 13 and 14 belong to feeding.
   pub never-of-feeding : (Refused Why.TotalTooLong → ⊥) × (Refused Why.OutOfRange → ⊥)
   never-of-feeding =
-      (filled log old r slots says rs (refusedWith Why.TotalTooLong at) .0, filled log old r slots says rs (refusedWith Why.OutOfRange at) .0)
+      (λ f. filled log old r slots says rs (refusedWith Why.TotalTooLong at) .0 f .2, λ f. filled log old r slots says rs (refusedWith Why.OutOfRange at) .0 f .2)
 
 -- Of a log that is refused for itself the records handed out are the longest chain that begins it.
 pub longest : (log : List ℕ) (old : List Slot) (r : Walked) (slots : List Slot) → FillSays log old r slots → (rs : List Slot) (why : Why) (at : ℕ)

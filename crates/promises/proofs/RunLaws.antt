@@ -11,6 +11,7 @@ use mathlib.Core.List.{List}
 use lib.ListN.{length}
 use Rattle.refusal.specs.declared.Ending.{Ending}
 use Rattle.refusal.specs.Limits.{logMost, holdFull}
+use Rattle.pieces.specs.Account.{With}
 use Rattle.pieces.specs.Feed.{gives, stops, wants, Outcome, feedOf, closeOf}
 use Rattle.pieces.specs.Feed as F
 use Rattle.pieces.specs.Run.{join, RunOf, InOrderOf, seenAs, callsSeen}
@@ -20,7 +21,7 @@ use Rattle.pieces.proofs.RunLaws.{calls-seen, order-seen}
 use Rattle.pieces.proofs.Agreement.{order-calls}
 use Rattle.record.specs.declared.Shape.{Shape}
 use Rattle.record.specs.declared.Slot.{Slot}
-use Rattle.record.specs.Record.{judgeOf}
+use Rattle.standing.specs.Standing.{Standing, countedJudge}
 use Rattle.walker.specs.declared.Answer.{Answer}
 use Rattle.walker.specs.declared.Reply.{Reply}
 use Rattle.walker.specs.declared.Walker.{Walker}
@@ -43,16 +44,16 @@ kept-back : (k : Option Ending) → keptOf (keptBy k) ≡ k
 kept-back none = refl
 kept-back (some e) = refl
 
-walker-back : (w : F.Walker Shape) → walkerOf (walkerBy w) ≡ w
+walker-back : (w : F.Walker (With Shape Standing)) → walkerOf (walkerBy w) ≡ w
 walker-back w = ap (λ k. record { shape = w .shape; held = w .held; total = w .total; kept = k }) (kept-back (w .kept))
 
 -- ---- one call
 
-abbrev told : Outcome (F.Walker Shape) Slot → Reply → Walker → List ℕ → Type 0
+abbrev told : Outcome (F.Walker (With Shape Standing)) Slot → Reply → Walker → List ℕ → Type 0
 told x reply w hold = (reply ≡ replyBy x) × (w ≡ walkerBy (x .walker)) × (hold ≡ x .hold)
 
 -- an outcome of the code that says what an outcome of the definitions says is that one
-outcome-told : (x : Outcome (F.Walker Shape) Slot) (o : Outcome Walker Slot) → told x (replyBy o) (o .walker) (o .hold) → seenAs walkerOf o ≡ x
+outcome-told : (x : Outcome (F.Walker (With Shape Standing)) Slot) (o : Outcome Walker Slot) → told x (replyBy o) (o .walker) (o .hold) → seenAs walkerOf o ≡ x
 outcome-told x o (r, v, h) =
     let a : o .answer ≡ x .answer = sym (answer-back (o .answer)) ∙ ap (λ (y : Reply). answerOf (y .answer)) r ∙ answer-back (x .answer) in
     let n : o .count ≡ x .count = ap (λ (y : Reply). y .count) r in
@@ -60,23 +61,23 @@ outcome-told x o (r, v, h) =
     rw (a, n, w, h)
 
 pub feed-outcome : (w : Walker) (hold piece : List ℕ) (o : Outcome Walker Slot) → Feeds w hold piece o
-    → seenAs walkerOf o ≡ feedOf judgeOf holdFull logMost wrong (walkerOf w) hold piece
+    → seenAs walkerOf o ≡ feedOf countedJudge holdFull logMost wrong (walkerOf w) hold piece
 unfolding feedTo
 feed-outcome w hold piece o says = outcome-told (feedTo w hold piece) o says
 
 pub close-outcome : (w : Walker) (hold : List ℕ) (o : Outcome Walker Slot) → Closes w hold o
-    → seenAs walkerOf o ≡ closeOf judgeOf holdFull logMost wrong (walkerOf w) hold
+    → seenAs walkerOf o ≡ closeOf countedJudge holdFull logMost wrong (walkerOf w) hold
 unfolding closeTo
 close-outcome w hold o ((r, v), h) =
-    outcome-told (closeTo w hold) o (r, v, h ∙ sym (close-still judgeOf holdFull logMost wrong (walkerOf w) hold .1))
+    outcome-told (closeTo w hold) o (r, v, h ∙ sym (close-still countedJudge holdFull logMost wrong (walkerOf w) hold .1))
 
 -- The calls of the code are a run of `pieces`.
 pub run-of : {log : List ℕ} {w : Walker} {last : List ℕ} {cs : List Call} → Run log w last cs
-    → RunOf judgeOf holdFull logMost wrong log (walkerOf w) last (callsOf cs)
+    → RunOf countedJudge holdFull logMost wrong log (walkerOf w) last (callsOf cs)
 run-of r = calls-seen walkerOf holdFull _ _ _ _ _ _ (λ w. refl) feed-outcome close-outcome r
 
 pub order-of : {ps : List (List ℕ)} {w : Walker} {last : List ℕ} {cs : List Call} → InOrder ps w last cs
-    → InOrderOf judgeOf holdFull logMost wrong ps (walkerOf w) last (callsOf cs)
+    → InOrderOf countedJudge holdFull logMost wrong ps (walkerOf w) last (callsOf cs)
 order-of r = order-seen walkerOf holdFull _ _ _ _ _ _ (λ w. refl) feed-outcome close-outcome r
 
 -- Feeding pieces in order is a run: no feed takes more than there is, and one that wants more has taken all.
@@ -85,32 +86,32 @@ order-run r = order-calls holdFull _ _ _ few all (λ e. refl) r
   where
     few : (w : Walker) (hold p : List ℕ) (o : Outcome Walker Slot) → Feeds w hold p o → o .count ≤ length p
     few w hold p o f =
-        rw (sym (ap (λ x. x .count) (feed-outcome w hold p o f))) at (feed-count judgeOf holdFull logMost wrong (walkerOf w) hold p)
+        rw (sym (ap (λ x. x .count) (feed-outcome w hold p o f))) at (feed-count countedJudge holdFull logMost wrong (walkerOf w) hold p)
 
     all : (w : Walker) (hold p : List ℕ) (o : Outcome Walker Slot) → Feeds w hold p o → o .answer ≡ wants → o .count ≡ length p
     all w hold p o f a =
         let same = feed-outcome w hold p o f in
-        ap (λ x. x .count) same ∙ feed-all judgeOf holdFull logMost wrong (walkerOf w) hold p (sym (ap (λ x. x .answer) same) ∙ a)
+        ap (λ x. x .count) same ∙ feed-all countedJudge holdFull logMost wrong (walkerOf w) hold p (sym (ap (λ x. x .answer) same) ∙ a)
 
 -- ---- and feeding in order, in `pieces`, is so in the code
 
-abbrev pub callsBy : List (R.Call (F.Walker Shape) Slot) → List Call
+abbrev pub callsBy : List (R.Call (F.Walker (With Shape Standing)) Slot) → List Call
 callsBy cs = callsSeen walkerBy cs
 
-feed-by : (w : F.Walker Shape) (hold p : List ℕ) (o : Outcome (F.Walker Shape) Slot) → o ≡ feedOf judgeOf holdFull logMost wrong w hold p
+feed-by : (w : F.Walker (With Shape Standing)) (hold p : List ℕ) (o : Outcome (F.Walker (With Shape Standing)) Slot) → o ≡ feedOf countedJudge holdFull logMost wrong w hold p
     → Feeds (walkerBy w) hold p (seenAs walkerBy o)
 unfolding feedTo
 feed-by w hold p o e =
-    let same : o ≡ feedTo (walkerBy w) hold p = e ∙ ap (λ v. feedOf judgeOf holdFull logMost wrong v hold p) (sym (walker-back w)) in
+    let same : o ≡ feedTo (walkerBy w) hold p = e ∙ ap (λ v. feedOf countedJudge holdFull logMost wrong v hold p) (sym (walker-back w)) in
     (ap replyBy same, ap (λ x. walkerBy (x .walker)) same, ap (λ x. x .hold) same)
 
-close-by : (w : F.Walker Shape) (hold : List ℕ) (o : Outcome (F.Walker Shape) Slot) → o ≡ closeOf judgeOf holdFull logMost wrong w hold
+close-by : (w : F.Walker (With Shape Standing)) (hold : List ℕ) (o : Outcome (F.Walker (With Shape Standing)) Slot) → o ≡ closeOf countedJudge holdFull logMost wrong w hold
     → Closes (walkerBy w) hold (seenAs walkerBy o)
 unfolding closeTo
 close-by w hold o e =
-    let same : o ≡ closeTo (walkerBy w) hold = e ∙ ap (λ v. closeOf judgeOf holdFull logMost wrong v hold) (sym (walker-back w)) in
-    ((ap replyBy same, ap (λ x. walkerBy (x .walker)) same), ap (λ x. x .hold) e ∙ close-still judgeOf holdFull logMost wrong w hold .1)
+    let same : o ≡ closeTo (walkerBy w) hold = e ∙ ap (λ v. closeOf countedJudge holdFull logMost wrong v hold) (sym (walker-back w)) in
+    ((ap replyBy same, ap (λ x. walkerBy (x .walker)) same), ap (λ x. x .hold) e ∙ close-still countedJudge holdFull logMost wrong w hold .1)
 
-pub order-by : {ps : List (List ℕ)} {w : F.Walker Shape} {last : List ℕ} {cs : List (R.Call (F.Walker Shape) Slot)}
-    → InOrderOf judgeOf holdFull logMost wrong ps w last cs → InOrder ps (walkerBy w) last (callsBy cs)
+pub order-by : {ps : List (List ℕ)} {w : F.Walker (With Shape Standing)} {last : List ℕ} {cs : List (R.Call (F.Walker (With Shape Standing)) Slot)}
+    → InOrderOf countedJudge holdFull logMost wrong ps w last cs → InOrder ps (walkerBy w) last (callsBy cs)
 order-by r = order-seen walkerBy holdFull _ _ _ _ _ _ (λ w. refl) feed-by close-by r

@@ -5,7 +5,7 @@
 -- Assumes nothing.
 use Prim.Native.Nat.{ℕ, _≤_}
 use mathlib.Core.Path.{_≡_, sym, ap, _∙_}
-use mathlib.Core.List.{List}
+use mathlib.Core.List.{List, []}
 use native.Mathlib.Omega.{arith}
 use lib.ListN.{length, take, drop, length-append, length-take, length-drop}
 use lib.Seq.{take-append-seam, drop-append-seam}
@@ -16,13 +16,17 @@ use Rattle.pieces.proofs.SlotLaws.{fit-records}
 use Rattle.record.specs.declared.Slot.{Slot}
 use Rattle.record.specs.Record.{judgeOf, openingShape}
 use Rattle.walk.specs.declared.Walked.{Walked}
-use Rattle.walk.specs.Fill.{toldInto, FillSays}
+use Rattle.standing.specs.Serials.{numbered}
+use Rattle.standing.proofs.SerialLaws.{numbered-take}
+use Rattle.walk.specs.Fill.{bareInto, toldInto, FillSays}
 use Rattle.promises.specs.Answers.{recordsOf}
 
 -- k slots take the first k of them
 told-records : (k : ℕ) (log : List ℕ) → toldInto k log .records ≡ take k (recordsOf log)
-unfolding toldInto into
-told-records k log = fit-records (λ slot. slot .start) k (recordsOf log) (wholeWalk judgeOf logMost openingShape log .ending)
+unfolding toldInto bareInto into
+told-records k log =
+    let t = wholeWalk judgeOf logMost openingShape log in
+    ap (numbered []) (fit-records (λ slot. slot .start) k (t .records) (t .ending)) ∙ numbered-take k [] (t .records)
 
 module _ (log : List ℕ) (old : List Slot) (r : Walked) (slots : List Slot) (says : FillSays log old r slots) where
   abbrev t : Told Slot

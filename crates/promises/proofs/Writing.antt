@@ -25,6 +25,8 @@ use Rattle.record.specs.Record.{openingShape}
 use Rattle.record.specs.Whole.{Lies}
 use Rattle.walk.specs.declared.Walked.{Walked}
 use Rattle.walk.specs.Divides.{Chain, none, next, Divides}
+use Rattle.standing.specs.Serials.{numbered}
+use Rattle.standing.proofs.SerialLaws.{numbered-length}
 use Rattle.walk.specs.Fill.{walkedOf, FillSays}
 use Rattle.write.specs.declared.Answer.{Answer}
 use Rattle.write.specs.declared.Wrote.{Wrote}
@@ -34,6 +36,7 @@ use Rattle.write.specs.Again.{entryIn, entriesIn, slotFor, bytesIn}
 use Rattle.write.proofs.FaultLaws.{written-exactly, fits-exactly, refused-exactly}
 use Rattle.write.proofs.EntryLaws.{Narrows, opening-narrow, after-narrow}
 use Rattle.write.proofs.WrittenLaws.{bytes-apart, written-lies, written-entry, lies-written}
+use Rattle.promises.specs.Answers.{Numbered}
 use Rattle.promises.specs.Writing.{Writable, Writings, rests, writes}
 use Rattle.promises.proofs.Acceptance.{accepted}
 
@@ -129,6 +132,13 @@ unfolding entriesIn
 length-entries sh log [] = refl
 length-entries sh log (slot ∷ rs) = ap suc (length-entries (stateAfter sh (entryIn sh log slot)) log rs)
 
+-- a serial is no part of an entry
+entries-numbered : (sh : Shape) (log : List ℕ) (before rs : List Slot) → entriesIn sh log (numbered before rs) ≡ entriesIn sh log rs
+unfolding entriesIn entryIn numbered
+entries-numbered sh log before [] = refl
+entries-numbered sh log before (slot ∷ rs) =
+    ap (λ es. entryIn sh log slot ∷ es) (entries-numbered (stateAfter sh (entryIn sh log slot)) log (before ++ (slot ∷ [])) rs)
+
 -- ---- calls
 
 -- what calls gave is what their entries make, and none was refused
@@ -148,7 +158,7 @@ writings-written {sh = sh} (writes {e = e} {es = es} {old = old} {new = new} {r 
 pub written-reads : (es : List Entry) (x tail : List ℕ) → Writings openingShape es x → length tail ≤ tailMost → length (x ++ tail) ≤ logMost
     → (old : List Slot) (r : Walked) (slots : List Slot) → FillSays (x ++ tail) old r slots → length es ≤ length old
     → (rs : List Slot) × (length rs ≡ length es) × (r ≡ walkedOf (length rs) (Ending.End (length x) (length tail))) × (take (length rs) slots ≡ rs)
-    × Divides (x ++ tail) rs (length x) (length tail) × (entriesIn openingShape (x ++ tail) rs ≡ es)
+    × Numbered (λ bare. Divides (x ++ tail) bare (length x) (length tail)) rs × (entriesIn openingShape (x ++ tail) rs ≡ es)
 written-reads es x tail calls few short old r slots says room =
     let (w, x-is) = writings-written calls in
     let (rs, last, chain, same) = written-chain openingShape es w (x ++ tail) [] tail (ap (λ l. l ++ tail) x-is) in
@@ -163,8 +173,9 @@ written-reads es x tail calls few short old r slots says room =
       over = refl;
       few = few;
     } in
-    let (ends, filled) = accepted (x ++ tail) old r slots says rs (length x) (length tail) .1 (short, rw count room, d) in
-    (rs, count, ends, filled, d, same)
+    let many : length (numbered [] rs) ≡ length es = numbered-length [] rs ∙ count in
+    let (ends, filled) = accepted (x ++ tail) old r slots says (numbered [] rs) (length x) (length tail) .1 (rs, refl, (short, rw count room, d)) in
+    (numbered [] rs, many, ends, filled, (rs, refl, d), entries-numbered openingShape (x ++ tail) [] rs ∙ same)
 
 -- WHAT WAS READ WRITES THE SAME. Of every accepted log: of the entries that its slots tell of none is refused, and their records one after the other, and then
 -- the tail, are the log, byte for byte.
@@ -172,11 +183,12 @@ pub read-writes : (log : List ℕ) (old : List Slot) (r : Walked) (slots : List 
     → r ≡ walkedOf (length rs) (Ending.End at tail) → take (length rs) slots ≡ rs
     → Writable openingShape (entriesIn openingShape log rs) × (bytesIn (entriesIn openingShape log rs) ++ drop at log ≡ log) × (length (drop at log) ≡ tail)
 read-writes log old r slots says rs at tail ends filled =
-    let (short, room, d) = accepted log old r slots says rs at tail .0 (ends, filled) in
+    let (bare, serials, (short, room, d)) = accepted log old r slots says rs at tail .0 (ends, filled) in
+    let entries : entriesIn openingShape log rs ≡ entriesIn openingShape log bare = ap (entriesIn openingShape log) serials ∙ entries-numbered openingShape log [] bare in
     let whole : log ≡ d .front ++ d .rest = d .begins .whole in
     let (w, same) = chain-written (d .begins .chain) opening-narrow (bytes-apart (d .front) (d .rest) (rw whole at (says .2)) .0) log [] (d .rest) whole refl in
     let rest : drop at log ≡ d .rest = ap (λ n. drop n log) (d .ends) ∙ ap (drop (length (d .front))) whole ∙ drop-append-seam (d .front) (d .rest) in
-    (w, rw (same, rest) (sym whole), ap length rest ∙ sym (d .over))
+    (rw entries w, rw (entries, same, rest) (sym whole), ap length rest ∙ sym (d .over))
 
 -- So of the code: whatever calls of the writer for these entries gave, with the tail it is the log.
 pub again : (log : List ℕ) (old : List Slot) (r : Walked) (slots : List Slot) → FillSays log old r slots → (rs : List Slot) (at tail : ℕ)

@@ -1,5 +1,6 @@
 -- What a walk over lent slots, a feed and a close may answer: the words in which their theorems are stated.
---   recordsOf log              the records of the whole log, which are none where it is over the limit
+--   recordsOf log              the records of the whole log with their serials, which are none where it is over the limit
+--   Numbered P rs              the records rs without their serials are such as P says, and the serials are theirs
 --   Filled r slots rs e        the first slots hold the records rs, and the walk ended so
 --   Breaks log old rs why at   the log is within the limit, there are slots enough, and it begins with rs; then follows what is refused
 --   OfFeed, OfClose            what a feed and a close may say of their own, where the walker keeps no answer (document 01, "feeds, having no slots,
@@ -7,24 +8,26 @@
 -- Assumes nothing.
 use Prim.Native.Nat.{ℕ, _≤_}
 use mathlib.Core.Path.{_≡_}
-use mathlib.Core.List.{List}
+use mathlib.Core.List.{List, []}
 use mathlib.Core.Logic.{_⊎_}
 use lib.ListN.{length, take}
 use Rattle.refusal.specs.declared.Ending.{Ending}
 use Rattle.refusal.specs.declared.Why.{Why}
 use Rattle.refusal.specs.Limits.{logMost}
 use Rattle.refusal.specs.Refusals.{Work, Origin, originOf}
-use Rattle.pieces.specs.Walk.{wholeWalk}
 use Rattle.record.specs.declared.Slot.{Slot}
-use Rattle.record.specs.Record.{openingShape, judgeOf}
 use Rattle.record.specs.Met.{OfRecord}
+use Rattle.standing.specs.Serials.{numbered, wholeTold}
 use Rattle.walk.specs.declared.Walked.{Walked}
 use Rattle.walk.specs.Fill.{walkedOf}
 use Rattle.walk.specs.Divides.{Broken}
 use Rattle.walker.specs.declared.Answer.{Answer}
 
 abbrev pub recordsOf : List ℕ → List Slot
-recordsOf log = wholeWalk judgeOf logMost openingShape log .records
+recordsOf log = wholeTold log .records
+
+abbrev pub Numbered : (List Slot → Type 0) → List Slot → Type 0
+Numbered P rs = (bare : List Slot) × (rs ≡ numbered [] bare) × P bare
 
 abbrev pub Filled : Walked → List Slot → List Slot → Ending → Type 0
 Filled r slots rs e = (r ≡ walkedOf (length rs) e) × (take (length rs) slots ≡ rs)

@@ -11,12 +11,14 @@ use Prim.Native.Nat.{ℕ}
 use mathlib.Core.Path.{_≡_}
 use mathlib.Core.List.{List}
 use Rattle.refusal.specs.Limits.{holdFull}
+use Rattle.pieces.specs.Account.{With}
 use Rattle.pieces.specs.Feed.{Outcome}
 use Rattle.pieces.specs.Feed as F
 use Rattle.pieces.specs.Run.{callSeen, callsSeen}
 use Rattle.pieces.specs.Run as R
 use Rattle.record.specs.declared.Shape.{Shape}
 use Rattle.record.specs.declared.Slot.{Slot}
+use Rattle.standing.specs.Standing.{Standing}
 use Rattle.walker.specs.declared.Walker.{Walker}
 use Rattle.walker.specs.Walker.{walkerOf, replyBy, FeedSays, CloseSays}
 
@@ -38,8 +40,8 @@ Run log w last cs = R.Run holdFull heldBy Feeds Closes log w last cs
 abbrev pub InOrder : List (List ℕ) → Walker → List ℕ → List Call → Type 0
 InOrder ps w last cs = R.InOrder holdFull heldBy Feeds Closes ps w last cs
 
-abbrev pub callOf : Call → R.Call (F.Walker Shape) Slot
+abbrev pub callOf : Call → R.Call (F.Walker (With Shape Standing)) Slot
 callOf c = callSeen walkerOf c
 
-abbrev pub callsOf : List Call → List (R.Call (F.Walker Shape) Slot)
+abbrev pub callsOf : List Call → List (R.Call (F.Walker (With Shape Standing)) Slot)
 callsOf cs = callsSeen walkerOf cs

@@ -4,6 +4,8 @@ use made_logs::made::Made;
 use record::Slot;
 use record::Turn;
 use refusal::Ending;
+use standing::REGISTERS;
+use standing::TALLIES;
 use walk::Turned;
 use writes::entries;
 use writes::entries::Found;
@@ -68,10 +70,12 @@ fn is_given(block: &[u8], log: &[u8], starts: &[u32], i: usize, turned: Turned, 
 
 // How many differences the walk meets: it stops at the first.
 pub fn differences(block: &[u8], log: &[u8], starts: &[u32], m: Made) -> usize {
+    let mut counts = [0u32; REGISTERS];
+    let mut tallies = [0u32; TALLIES];
     let mut c = walk::opening();
     let mut i: usize = 0;
     while i < m.records {
-        let turned = walk::next_record(log, c);
+        let turned = walk::next_record(log, c, &mut counts, &mut tallies);
         if !is_given(block, log, starts, i, turned, m) {
             print::line(b"record # of the walk differs\n", &[i as u64]);
             return 1;
@@ -79,7 +83,7 @@ pub fn differences(block: &[u8], log: &[u8], starts: &[u32], m: Made) -> usize {
         c = turned.next;
         i += 1;
     }
-    let last = walk::next_record(log, c);
+    let last = walk::next_record(log, c, &mut counts, &mut tallies);
     let turn = last.turn;
     if is_last(turn, log.len(), m) {
         return 0;

@@ -3,6 +3,8 @@ use crate::sum;
 use numbers::Span;
 use record::Slot;
 use record::Turn;
+use standing::REGISTERS;
+use standing::TALLIES;
 use walker::Answer;
 use walker::Kept;
 use walker::Walker;
@@ -52,10 +54,12 @@ fn is_open(kept: Kept) -> bool {
 // The whole log, record by record, until it ends or is refused.
 fn walked(log: &[u8], before: Tally) -> Tally {
     let mut t = before;
+    let mut counts = [0u32; REGISTERS];
+    let mut tallies = [0u32; TALLIES];
     let mut c = walk::opening();
     let mut i: usize = 0;
     while i < CALLS_MOST {
-        let turned = walk::next_record(log, c);
+        let turned = walk::next_record(log, c, &mut counts, &mut tallies);
         let turn = turned.turn;
         match turn {
             Turn::Record(slot) => {

@@ -9,7 +9,7 @@ next-record-requires : tie.Need-next-record-requires
 next-record-requires c κs = search needs
 
 returns : tie.Need-returns
-returns c = ap (λ (t : Turned). t .turn) (c .next-record .ensures .0)
+returns c = ap (λ (t : Turned). t .turn) (c .next-record .ensures .0 .0)
 
 pub turn-at-spec : {M : Type 1} → statement M
 turn-at-spec = tie.close (tie.spec next-record-requires returns)

@@ -6,10 +6,10 @@ use Rattle.read_back.proofs.walks.differences.Statement.{statement}
 use Rattle.read_back.proofs.walks.differences.Tie as tie
 
 abbrev Inv-loop : tie.InvT-loop
-Inv-loop block log starts m c₀ i₀ t10 t11 c i = Unit {0}
+Inv-loop block log starts m counts₀ tallies₀ c₀ i₀ t12 t13 counts tallies c i = Unit {0}
 
 abbrev μ-loop : tie.MeasureT-loop
-μ-loop block log starts m c₀ i₀ t10 t11 c i = m .records - i
+μ-loop block log starts m counts₀ tallies₀ c₀ i₀ t12 t13 counts tallies c i = m .records - i
 
 opening-requires : tie.Need-opening-requires Inv-loop μ-loop
 opening-requires c κs = search needs

@@ -5,10 +5,10 @@ use Rattle.speed.proofs.measure.walked.Statement.{statement}
 use Rattle.speed.proofs.measure.walked.Tie as tie
 
 abbrev Inv-loop : tie.InvT-loop
-Inv-loop log t₀ c₀ i₀ t c i = Unit {0}
+Inv-loop log t₀ counts₀ tallies₀ c₀ i₀ t counts tallies c i = Unit {0}
 
 abbrev μ-loop : tie.MeasureT-loop
-μ-loop log t₀ c₀ i₀ t c i = 1000000 - i
+μ-loop log t₀ counts₀ tallies₀ c₀ i₀ t counts tallies c i = 1000000 - i
 
 opening-requires : tie.Need-opening-requires Inv-loop μ-loop
 opening-requires c κs = search needs
