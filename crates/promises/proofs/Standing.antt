@@ -9,7 +9,6 @@
 -- `serialIn`, `howMany`, `handed` and `tallyIn` are those of `standing` (specs/Serials.antt, specs/Standing.antt). Assumes nothing.
 use Prim.Native.Nat.{ℕ, _+_, _*_, _≤_, _<_}
 use mathlib.Core.Path.{_≡_, refl, sym, ap, _∙_}
-use mathlib.Core.Bool.{false}
 use mathlib.Core.List.{List, [], _∷_, _++_}
 use native.Mathlib.Omega.{arith}
 use lib.Dec.{ltb}
@@ -17,17 +16,15 @@ use lib.ListN.{length, getD, take, length-take, length-replicate, getD-replicate
 use Rattle.refusal.specs.declared.Ending.{Ending}
 use Rattle.refusal.specs.Limits.{logMost, pairsMost, holdFull}
 use Rattle.pieces.specs.Walk.{Told, wholeWalk}
-use Rattle.pieces.specs.Account.{With}
 use Rattle.pieces.specs.Went.{Went}
 use Rattle.pieces.specs.Run.{fedCall, closeCall, outcomeOf}
 use Rattle.pieces.specs.Prompt.{given}
 use Rattle.pieces.proofs.RunLaws.{callsSeen-append, callsSeen-told}
 use Rattle.pieces.proofs.RunWent.{went-run, run-range}
-use Rattle.record.specs.declared.Shape.{Shape}
 use Rattle.record.specs.declared.Slot.{Slot}
 use Rattle.record.specs.Record.{judgeOf, openingShape}
-use Rattle.standing.specs.Serials.{registers, howMany, serialIn, numbered}
-use Rattle.standing.specs.Standing.{banks, anyAbove, Standing, overTotal, noneYet, countedJudge, opening, idAt, handed, tallyIn}
+use Rattle.standing.specs.Serials.{registers, howMany, serialIn}
+use Rattle.standing.specs.Standing.{banks, anyAbove, overTotal, noneYet, countedJudge, opening, idAt, handed, tallyIn}
 use Rattle.standing.proofs.SerialLaws.{numbered-take, numbered-serial}
 use Rattle.standing.proofs.StandingLaws.{neither, above-each, none-stands}
 use Rattle.standing.proofs.CountedLaws.{went-stood, went-numbered}
@@ -36,7 +33,6 @@ use Rattle.walk.specs.Turn.{openingCursor}
 use Rattle.walk.specs.Fill.{FillSays}
 use Rattle.walker.specs.declared.Walker.{Walker}
 use Rattle.walker.specs.Walker.{standOf, walkerOf, freshWalker, wrong}
-use Rattle.promises.specs.Answers.{recordsOf}
 use Rattle.promises.specs.Runs.{Call, Run, callOf, callsOf}
 use Rattle.promises.specs.Turns.{Turns}
 use Rattle.promises.proofs.ByTurns.{turns-told}

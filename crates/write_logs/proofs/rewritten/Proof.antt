@@ -1,7 +1,6 @@
 -- `write_logs::rewritten` lends the first bytes of the buffer, as many as `least` gives, which are there.
 -- Assumes nothing.
 use mathlib.Core.Path.{sym}
-use lib.ListN.{length}
 use lib.Seq.{length-take-le}
 use borrow.Author.Needs.{needs}
 use borrow.Author.Needs.{needs}
