@@ -16,7 +16,7 @@ import sys
 import bench_sample as sample
 import model
 from bench_model import REFUSALS, Bench
-from maker import C, E, F, G, H, L, M, N, P, S, U, W, X, agile, bank, c, edited, f, listed, u16, u32, variable, wide
+from maker import C, E, F, G, H, L, M, N, P, S, U, W, X, agile, bank, c, edited, f, listed, pairs, u16, u32, variable, wide
 from oracle import run
 
 SIZES = {4: 20, 0xB: 32, 0xC: 48}
@@ -53,9 +53,20 @@ def a_record(r, is_agile):
     return agile(event, [(id, bytes(SIZES.get(id, 0))) for id in ids], data, register)
 
 
+def some_pairs(r):
+    """Those of SIZES, often with others beside them, at times more than sixteen; of ten one has an id twice, and one a known id with another size."""
+    out = [*SIZES.items(), *pairs(r.choice((0, 0, 0, 1, 5, 13)) if r.randrange(12) else r.choice((14, 17, 60)), {})]
+    r.shuffle(out)
+    if r.randrange(10) == 0:
+        out.insert(r.randrange(len(out) + 1), (r.choice(out)[0], r.choice((0, 5, 20, 32, 48))))
+    if r.randrange(10) == 0:
+        out[r.randrange(len(out))] = (0xD, r.choice((0, 20, 63, 64, 64, 65, 65535)))
+    return out
+
+
 def a_log(r):
-    is_agile, pairs = r.random() < 0.7, ((4, 20), (0xB, 32), (0xC, 48), (0xB, 32))
-    start = sample.marker(*pairs * r.choice((1,) * 19 + (5,)), vendor=b"v" * r.randrange(3), uintn=r.choice((2,) * 39 + (1,)))
+    is_agile = r.random() < 0.7
+    start = sample.marker(*some_pairs(r), vendor=b"v" * r.randrange(3), uintn=r.choice((2,) * 39 + (1,)))
     start = damaged(r, start) if is_agile else b""
     rest = [a_record(r, is_agile) for _ in range(r.choice((0, 1, 2, 3, 5, 66)))]
     return damaged(r, start + b"".join(edited(r, x) if r.random() < 0.02 else x for x in rest) + bytes(r.randrange(5)))
@@ -137,8 +148,8 @@ def written(r):
     is_made, is_agile = r.random() < 0.3, r.random() < 0.6
     out = [M(kind, table, r.choice((None, None, 2, 16, 17, (1 << 64) - 1))) if is_made else S]
     if is_agile and not is_made:
-        data = damaged(r, sample.spec_id(list(SIZES.items()) * r.choice((1,) * 9 + (6,)), b"v" * r.randrange(3)))
-        out.append(E(model.Entry(0, 0, 3, listed((4, bytes(20))), data), 200))
+        data = damaged(r, sample.spec_id(some_pairs(r), b"v" * r.randrange(3)))
+        out.append(E(model.Entry(0, 0, 3, listed((4, bytes(20))), data), 400))
     agile_next = kind == 2 if is_made else is_agile
     return out + [E(an_entry(r, int(agile_next)), r.choice((0, 32, 37, 100, 400, 2000, 65536))) for _ in range(r.randrange(8))]
 

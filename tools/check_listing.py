@@ -4,8 +4,9 @@
     tools/check_listing.py COMMAND [WORD ...]
 
 COMMAND with its words starts the listing, which reads the log on standard input. To be run from the top of the repository. It ends with 1 where they
-differ. The logs: both sides of the limit and what is far past it, registers that come again, each kind of contents in each kind of log, records that are
-refused or cut, tails, and the sample of real firmware, whole and damaged. Some come a few bytes a read as well. They are the same in every run."""
+differ. The logs: both sides of the limit and what is far past it, registers that come again, markers with pairs of every sort, each kind of contents in each
+kind of log, records that are refused or cut, tails, and the sample of real firmware, whole and damaged. Some come a few bytes a read as well. They are the same in
+every run."""
 import contextlib
 import random
 import socket
@@ -13,8 +14,8 @@ import subprocess
 import sys
 
 import model
-from maker import (ACTION, AGAIN, BLOB, END, FRAMES, GPT, IMAGE, SEPARATOR, TEXT, VARIABLE, WIDE_TEXT, cut_or_changed, entry, framed, gpt, image, sha1, u64,
-                   variable, wide)
+from maker import (ACTION, AGAIN, BLOB, END, FRAMES, GPT, IMAGE, KNOWN_PAIRS, MOST_PAIRS, SEPARATOR, SHA1, SHA256, TEXT, VARIABLE, WIDE_TEXT, agile,
+                   cut_or_changed, entry, framed, gpt, image, marker, named, pairs, sha1, u64, variable, wide)
 from oracle import lines_text, run
 
 SHORTEST = sha1(0, b"")
@@ -24,6 +25,12 @@ BORDERS = (
     ("document 01's example", sha1(SEPARATOR, bytes(4)) + b"\7"),
     ("the greatest numbers", sha1(0xFFFFFFFF, b"", register=0xFFFFFFFF)),
     *((f"registers that come again, {kind}", log) for kind, log in AGAIN.items()),
+    ("sixteen pairs", marker(*pairs(16)) + agile(ACTION, [(id, bytes(size)) for id, size in KNOWN_PAIRS], b"")),
+    ("seventeen pairs", marker(*pairs(17))),
+    ("an id twice", marker((SHA256, 32), (SHA256, 20)) + agile(ACTION, [(SHA256, bytes(20))], b"")),
+    ("an id twice, the second time in the seventeenth pair", marker(*pairs(17, {0: (SHA1, 20), 16: (SHA1, 20)}))),
+    ("an id twice, the second time in the last pair that fits", marker(*pairs(MOST_PAIRS, {0: (SHA1, 20), MOST_PAIRS - 1: (SHA1, 20)}))),
+    ("a size that is not the id's own", named(SHA256, 1)),
     ("65,535 bytes", LONGEST[:-1]),
     ("65,536 bytes", LONGEST),
     ("65,537 bytes", LONGEST + bytes(1)),

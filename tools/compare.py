@@ -9,9 +9,11 @@ oracle/build.sh is run, unless target/oracle/driver is there. To be run from the
 
 Every log of tools/compare_logs.py is walked by the bench over 64 slots and by the oracle, and the lines of all records and the last line must
 be the same. A sample is also fed in pieces, by value and where the walker lies; of another the nodes and entries are read by index; and ten thousand
-go through the listing. tools/oracle.py says what ours must be, also where the Rust has no answer.
+go through the listing. tools/oracle.py says what ours must be, also where the Rust has no answer, and where it takes a marker that Req 04 refuses: of these some
+are gone on with, by a made-up walker that has the marker's pairs.
 
-It prints how many were compared, by kind and by the last line of the Rust, and every difference; it ends with 1 if there is one.
+It prints how many were compared, by kind and by the last line of the Rust, and every difference; it ends with 1 if there is one. Markers that Req 04 refuses are
+counted by themselves, those with an id twice and those with another size than an id's own.
 """
 import collections
 import itertools
@@ -21,10 +23,11 @@ import sys
 
 import compare_logs
 from model import LOG_MOST
-from oracle import arguments, ask, drawn_pieces, driver_of, fed, listed, lists_of, program, read, run, said, walked
+from oracle import arguments, ask, drawn_pieces, driver_of, fed, fed_behind, goes_on, last_words, listed, lists_of, program, read, run, said, walked
 
-FED, READ, LISTED = 60, 12, 125  # one log of so many is fed, read, listed
+FED, MADE_UP, READ, LISTED = 60, 5, 12, 125  # one log of so many is fed, fed to a made-up walker (of those that Req 04 refuses), read, listed
 FED_OF = {"document 01": 1, "limits": 10, "real logs": 10, "registers": 10}
+MADE_UP_OF = {"document 01": 1, "limits": 1}
 READ_OF = {"document 01": 1}
 
 
@@ -56,8 +59,10 @@ def compare(kind, logs, turn, r, programs, counts):
     driver, bench, listing = programs
     says = [said(log, answer) for log, answer in zip(logs, ask(driver, logs))]
     for one in says:
-        counts[one.rust.split(" at ")[0]] += 1
+        counts[last_words(one)] += 1
         counts["records"] += len(one.records)
+        if one.why:
+            counts["there", last_words(one.without)] += 1
     counts["logs"] += len(logs)
     found = differences(kind + ", walked", bench, [(log, *walked(log, one)) for log, one in zip(logs, says)])
 
@@ -69,6 +74,13 @@ def compare(kind, logs, turn, r, programs, counts):
     counts["fed"] += len(some)
     counts["calls"] += sum(text.count("fed ") for _, _, text in cases)
     found += differences(kind + ", fed", bench, cases)
+
+    step = MADE_UP_OF.get(kind, MADE_UP)
+    some = [i for i in every(1) if goes_on(says[i])][turn % step::step]
+    cases = [(logs[i], *fed_behind(logs[i], says[i], *drawn_pieces(logs[i], r))) for i in some]
+    counts["made up"] += len(some)
+    counts["calls"] += sum(text.count("fed ") for _, _, text in cases)
+    found += differences(kind + ", fed to a made-up walker", bench, cases)
 
     some = every(READ_OF.get(kind, READ))
     answers = ask(driver, [logs[i] for i in some], "--parts")
@@ -83,14 +95,16 @@ def compare(kind, logs, turn, r, programs, counts):
 
 
 def report(counts, found):
-    columns = ("logs", "records", "fed", "calls", "read", "listed")
+    columns = ("logs", "records", "fed", "made up", "calls", "read", "listed")
     everything = sum(counts.values(), collections.Counter())
     print("| kind | " + " | ".join(columns) + " |")
     print("|---" * (len(columns) + 1) + "|")
     for kind in (*(x for x in compare_logs.PARTS if x in counts), "all"):
         row = everything if kind == "all" else counts[kind]
         print("| " + " | ".join([kind, *(f"{row[x]:,}" for x in columns)]) + " |")
-    print("last lines of the Rust:", ", ".join(f"{x} {n:,}" for x, n in sorted(everything.items()) if x not in columns))
+    there = {x[1]: everything.pop(x) for x in [x for x in everything if isinstance(x, tuple)]}
+    for title, some in (("last lines of the Rust", everything), ("where Req 04 refuses the marker they were", there)):
+        print(f"{title}:", ", ".join(f"{x} {n:,}" for x, n in sorted(some.items()) if x not in columns))
     for _, text in sorted(found):
         print("difference in", text)
     print(f"{everything['logs']:,} logs, {len(found)} differences")

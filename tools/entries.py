@@ -8,7 +8,7 @@ import collections
 import compare_logs
 import maker
 import model
-from maker import END, SHA1, SHA256, SHA384, SHA512, drive, entry, gpt, image, listed, node, sample, spec_id, u16, units, wide
+from maker import END, KNOWN_PAIRS, SHA1, SHA256, SHA384, SHA512, drive, entry, gpt, image, listed, node, pairs, sample, spec_id, u16, units, wide
 from model import AGILE_FORM, NO_ACTION, SHA1_FORM
 
 UNKNOWN = (0x13, 0x7FFFFFFF, 0x80000000, 0x8000000A, 0x80000010, 0x800000DF, 0x800000E1, 0xFFFFFFFF)
@@ -63,25 +63,39 @@ def of_types():
     return logs
 
 
+# Tables of none to sixteen pairs, with unknown ids of any size.
+TABLES = ((), ((SHA256, 32),), KNOWN_PAIRS, KNOWN_PAIRS[::-1], ((SHA1, 20), (0x12, 32)), ((0x12, 0), (SHA512, 64), (5, 65535), (SHA384, 48), (0, 1)), pairs(16),
+          pairs(16, {15: (SHA1, 20)}))
+# Tables that have an id twice, or a known id with another size than its own. No marker gives them: a state that is made up has them, and the last size of an id
+# counts.
+REFUSED_TABLES = (((SHA256, 32), (SHA256, 20)), ((SHA256, 0),), ((SHA1, 1), (0x12, 32)), ((SHA256, 32),) * 16,
+                  ((0x12, 9), (SHA512, 64), (SHA512, 0), (SHA384, 300)), ((SHA1, 20), (SHA1, 21)) * 8, ((0x12, 5), (0x12, 6), (SHA1, 20)),
+                  (*KNOWN_PAIRS[:3], (SHA512, 48)))
+
+
+def behind(table):
+    """Entries with digests of what a table declares, the last size of an id counting."""
+    some = [(id, sample(size)) for id, size in dict(table).items() if id in model.KNOWN_IDS]
+    return [agile(4, bytes(4), listed(*some)), agile(5, b"", b"", 1), agile(1, b"ab", listed(*some[:1] * 2), 2), agile(3, spec_id(), listed(*some * 4))]
+
+
 def of_markers():
-    """Tables of none to sixteen pairs, doubled and unknown ids, sizes 0, 1 and others; behind each digests of what it declares, the last size of an id counting."""
-    tables = [(), ((SHA256, 32),), ((SHA1, 20), (SHA256, 32), (SHA384, 48), (SHA512, 64)), ((SHA256, 32), (SHA256, 20)), ((SHA256, 0),), ((SHA1, 1), (0x12, 32)),
-              ((SHA256, 32),) * 16, ((0x12, 9), (SHA512, 64), (SHA512, 0), (SHA384, 300)), ((SHA1, 20), (SHA1, 21)) * 8]
-    for i, pairs in enumerate(tables):
-        sizes = {id: size for id, size in pairs if id in model.KNOWN_IDS}
-        some = [(id, sample(size)) for id, size in sizes.items()]
-        behind = [agile(4, bytes(4), listed(*some)), agile(5, b"", b"", 1), agile(1, b"ab", listed(*some[:1] * 2), 2), agile(3, spec_id(), listed(*some * 4))]
-        yield Log(roomy(marker(*pairs, vendor=b"v" * (i % 3)), *behind), sample(i % 4))
+    """Each table, and behind it digests of what it declares. Where the marker is refused they are 18, and the log goes on with one that is not."""
+    for i, table in enumerate((*TABLES, *REFUSED_TABLES)):
+        more = roomy(marker(*table, vendor=b"v" * (i % 3)), *behind(table))
+        yield Log(more + (roomy(MARKER, SOUND) if table in REFUSED_TABLES else []), sample(i % 4))
     sixteen = [(id, bytes([id]) * size) for id, size in ((SHA1, 20), (SHA256, 32)) * 8]
     yield Log(roomy(MARKER, agile(5, b"sixteen", listed(*sixteen)), agile(5, b"", listed(*sixteen, ONE))), b"\1\2\3")
-    yield Log(roomy(marker((SHA256, 0)), agile(5, b"none", listed(*[(SHA256, b"")] * 16)), agile(8, b"", listed((SHA256, b"")))))
+    yield Log(roomy(marker((SHA256, 0)), agile(5, b"none", listed(*[(SHA256, b"")] * 16)), agile(8, b"", listed((SHA256, b"")))))  # 9, and 18
 
 
 def of_borders():
     """Records of 32,768 bytes and of one more, in both forms; buffers that are exact, one byte short, and of no bytes."""
     yield Log(roomy(sha1(5, sample(FAR - 32)), sha1(5, sample(FAR - 31)), PLAIN))
     yield Log(roomy(MARKER, agile(5, sample(FAR - 16 - 22), listed(ONE)), agile(5, sample(FAR - 16 - 21), listed(ONE)), agile(1, b"\xFF", b"")))
-    yield Log(roomy(marker((SHA512, 32750)), agile(5, b"", listed((SHA512, sample(32750))))))
+    full = listed(*[ONE] * 1488)  # 32,736 bytes of digests with their ids
+    yield Log(roomy(MARKER, agile(5, sample(16), full), agile(5, sample(17), full), agile(5, b"", full + listed(ONE))))
+    yield Log(roomy(marker((SHA512, 32750)), agile(5, b"", listed((SHA512, sample(32750))))))  # 9, and 18
     for one, before in ((PLAIN, []), (PLAIN, [PLAIN]), (MARKER, []), (SOUND, [MARKER]), (agile(5, b"", b""), [MARKER])):
         rooms = [(one, room) for room in (length(one) - 1, 0, 1, length(one), length(one) - 1, length(one) + 1)]
         yield Log(roomy(*before) + (rooms if one != MARKER else rooms[:4] + [(SOUND, length(SOUND))]), b"\1")
@@ -118,7 +132,9 @@ def contents_refused(is_first):
     yield 8, wide("a") + b"\0"
     if is_first:
         yield from ((NO_ACTION, data) for data in (b"", b"no Spec ID", spec_id()[:28], spec_id(signature=b"Spec ID Event02\0"), spec_id(uintn=1), spec_id(uintn=0), spec_id() + b"x",
-                                                   spec_id([(SHA256, 32)] * 17), spec_id(vendor_length=1), spec_id([(SHA1, 20)], count=2)))
+                                                   spec_id([(SHA256, 32)] * 17), spec_id(vendor_length=1), spec_id([(SHA1, 20)], count=2), spec_id(pairs(17)),
+                                                   spec_id([(0x12, 1)] * 2), spec_id([(SHA1, 21)]), spec_id(pairs(17, {0: (0x12, 1), 16: (0x12, 1)})),
+                                                   spec_id(pairs(17, {16: (SHA512, 0)})), spec_id([(SHA1, 21)] * 2, uintn=1)))
 
 
 def of_forms():
@@ -132,8 +148,9 @@ def of_lists():
     """4 and 16, in both forms."""
     yield Log(roomy(*(sha1(5, b"data", some) for some in (b"", BOTH, listed(ONE, ONE), listed(ONE, ONE, ONE), *lists_refused(SHA1_FORM))), PLAIN, PLAIN))
     yield Log(roomy(MARKER, *(agile(5, b"data", some) for some in (*lists_refused(AGILE_FORM), listed(ONE, TWO, (SHA384, sample(48))))), SOUND))
-    undeclared = marker((SHA256, 0), (0x12, 5))
-    yield Log(roomy(undeclared, *(agile(5, b"", some) for some in (listed((0x12, sample(5))), SHA1_LIST, listed((SHA256, b"x")), listed((SHA256, b""), (SHA256, b"x"))))))
+    for undeclared in (marker((SHA256, 32), (0x12, 5)), marker((SHA256, 0), (0x12, 5))):  # the second: 9, and 18
+        lists = listed((0x12, sample(5))), SHA1_LIST, listed((SHA256, b"x")), listed((SHA256, b""), (SHA256, b"x")), listed(TWO, (SHA256, b"x"))
+        yield Log(roomy(undeclared, *(agile(5, b"", some) for some in lists)))
 
 
 def of_contents():
@@ -142,7 +159,8 @@ def of_contents():
         yield Log(roomy(*([] if is_first else [PLAIN]), *some, PLAIN), b"\1\2\3")
     yield Log(roomy(MARKER, *(agile(t, b, register=i) for i, (t, b) in enumerate(contents_refused(False))), SOUND), b"\1")
     yield Log(roomy(PLAIN, sha1(3, b"a later type 3"), sha1(3, spec_id(uintn=1))))
-    yield Log(roomy(*(sha1(3, spec_id([(SHA256, 32)] * n)) for n in (17, 16))))
+    yield Log(roomy(*(sha1(3, spec_id([(SHA256, 32)] * n)) for n in (17, 16))))  # 9 twice
+    yield Log(roomy(*(sha1(3, spec_id(pairs(n))) for n in (17, 16))))  # 11, and written
 
 
 def of_order():

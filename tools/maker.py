@@ -7,9 +7,10 @@ import functools
 import os
 import struct
 
-from model import KNOWN_IDS, NO_ACTION
+from model import KNOWN_IDS, NO_ACTION, OWN_SIZES, PAIRS_MOST, RECORD_MOST
 
 SHA1, SHA256, SHA384, SHA512 = KNOWN_IDS
+KNOWN_PAIRS = tuple(OWN_SIZES.items())
 # An event type of each kind; ACTION has nothing inside.
 TEXT, SEPARATOR, ACTION, WIDE_TEXT, VARIABLE, IMAGE, GPT, BLOB = 1, 4, 5, 8, 0x80000001, 0x80000003, 0x80000006, 0x80000008
 
@@ -58,6 +59,15 @@ def spec_id(pairs=(), vendor=b"", uintn=2, signature=SIGNATURE, head=b"\0\0\0\0\
     """Signature 16, class 4, minor, major and errata 1 (`head`), uintn 1, how many pairs 4, the pairs, vendor length 1, vendor."""
     listed = b"".join(u16(id) + u16(size) for id, size in pairs)
     return signature + head + u8(uintn) + u32(given(count, len(pairs))) + listed + u8(given(vendor_length, len(vendor))) + vendor
+
+
+MOST_PAIRS = (RECORD_MOST - 32 - 29) // 4  # that fit a marker's record
+
+
+def pairs(n, some=None):
+    """So many pairs, no id twice: unknown ids of several sizes, and some by their places; if none are given, the four known ones at the front."""
+    some = dict(enumerate(KNOWN_PAIRS)) if some is None else some
+    return [some.get(i, (0x0100 + i, (0, 1, 20, 65535, 32, 300)[i % 6])) for i in range(n)]
 
 
 def variable(name=b"", data=b"", units=None, length=None, guid=bytes(range(16))):
@@ -143,11 +153,14 @@ def framed(frame, event, data):
 
 # Records by register and type: registers come again, the last that is counted and the first that is not, with type 3 among them.
 NAMED = ((4, ACTION), (23, TEXT), (4, NO_ACTION), (4, SEPARATOR), (24, ACTION), (23, ACTION), (23, NO_ACTION), (24, TEXT), (4, TEXT))
-# Logs of them; the agile records have no, one or two digests of one id.
-AGAIN = {
-    "SHA-1": b"".join(sha1(event, b"", register) for register, event in NAMED),
-    "agile": marker((SHA256, 1)) + b"".join(agile(event, [(SHA256, b"x")] * (i % 3), b"", register) for i, (register, event) in enumerate(NAMED)),
-}
+
+
+def named(id, size):
+    """An agile log of them. The records have no, one or two digests of one id."""
+    return marker((id, size)) + b"".join(agile(event, [(id, sample(size))] * (i % 3), b"", register) for i, (register, event) in enumerate(NAMED))
+
+
+AGAIN = {"SHA-1": b"".join(sha1(event, b"", register) for register, event in NAMED), "agile": named(SHA1, 20)}
 
 
 # ---------------------------------------------------------------- damage
@@ -218,7 +231,7 @@ L, H, F, f, P, G, U, X = (command(letter) for letter in (b"L", b"H", b"F", b"f",
 
 def state(kind, pairs, count):
     """What comes next, how many pairs count, and sixteen of them."""
-    table = b"".join(u16(id) + u16(size) for id, size in [*pairs, *[(0, 0)] * (16 - len(pairs))])
+    table = b"".join(u16(id) + u16(size) for id, size in [*pairs, *[(0, 0)] * (PAIRS_MOST - len(pairs))])
     return u8(kind) + u64(given(count, len(pairs))) + table
 
 

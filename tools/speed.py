@@ -1,8 +1,9 @@
 #!/usr/bin/env python3
 """Measures our reader against the Rust, and our writer against our reader, and prints the tables of docs/SPEED.md.
 
-    tools/speed.py [FOLDER] [--speed COMMAND] [--write COMMAND] [--oracle DRIVER] [--only-write]
-    tools/speed.py [FOLDER] --before COMMAND           our reader against itself as it was: COMMAND starts the program `speed` of an earlier commit
+    tools/speed.py [FOLDER] [--speed COMMAND] [--write COMMAND] [--oracle DRIVER] [--only-write | --only-markers]
+    tools/speed.py [FOLDER] --before COMMAND [--only-markers]
+                                                       our reader against itself as it was: COMMAND starts the program `speed` of an earlier commit
     tools/speed.py --gate                              writes crates/speed/stdin, and crates/write_speed/stdin and stdout
 
 FOLDER has the Rust source (docs/src) and logs of real firmware (logs); without it ../shared. COMMAND is what starts our program `speed` or `write_speed`:
@@ -14,9 +15,10 @@ times. The processes to be compared run by turns, five times each, and the least
 records and the sum of all their numbers that the oracle's lines have, with the serials (tools/oracle.py), and so must the stored run of crates/speed.
 
 It ends with 1 if a bound is missed: the walk takes over twice the time of the Rust on a real log or on small records, or longer than the Rust
-on text of one byte a character; a feed in one piece over twice the time of the walk; a digest of 16,000 over 1.3 times the time of one of
-4,000; writing a log's records over twice the time of the walk of them, where there are contents to judge; and against itself as it was, the
-walk over 1.1 times the time, 1.4 times where every third character has two bytes, or over the time itself on short texts.
+on text of one byte a character; a feed in one piece over twice the time of the walk; a digest of 1,488 over 1.3 times the time of one of
+372; a marker of as many pairs as fit a record over 2.4 times the time of one of half the length; writing a log's records over twice the time of the walk of
+them, where there are contents to judge; and against itself as it was, the walk over 1.1 times the time, 1.4 times where every third character has two bytes,
+over the time itself on short texts, or 1.2 times on a marker of the four known ids alone.
 """
 import os
 import re
@@ -28,9 +30,10 @@ import tempfile
 import compare_logs
 import entries
 from bench_model import weighed
-from maker import ACTION, SEPARATOR, SHA1, SHA256, SMALLEST, TEXT, WIDE_TEXT, WITH_TWO, agile, marker, real_logs, sample, sha1, wide
+from maker import (ACTION, KNOWN_PAIRS, MOST_PAIRS, SEPARATOR, SHA1, SHA256, SMALLEST, TEXT, WIDE_TEXT, WITH_TWO, agile, marker, pairs, real_logs, sample, sha1,
+                   wide)
 from model import LOG_MOST
-from oracle import arguments, driver_of, program, run, serials_of
+from oracle import arguments, ask, driver_of, program, run, said, serials_of
 from write_logs import entry_bytes
 
 ROUNDS, SECONDS = 5, 0.35
@@ -71,16 +74,26 @@ TEXTS = {
     "wide text": texts(WIDE_TEXT, wide("abcdef")),
 }
 
-# How many times the time of before a walk may take, where it is not 1.1. That of THIRD was set after it was measured (docs/SPEED.md).
-SLOWER = {SHORT: 1, THIRD: 1.4}
+# Logs that are a marker and no more. Those of many pairs have no id twice, and are refused with 11; or the last pair has the first one's id, and it is 9.
+FOUR, SIXTEEN = "a marker of the four known ids", "a marker of sixteen pairs"
+MARKERS = {FOUR: marker(*KNOWN_PAIRS), SIXTEEN: marker(*pairs(16))}
+HALF = (16384 - 61) // 4
+MANY = {
+    f"{HALF:,} pairs": marker(*pairs(HALF)),
+    f"{MOST_PAIRS:,} pairs": marker(*pairs(MOST_PAIRS), vendor=b"ven"),
+    f"{MOST_PAIRS:,} pairs, the last with the first one's id": marker(*pairs(MOST_PAIRS, {0: (SHA256, 32), MOST_PAIRS - 1: (SHA256, 32)}), vendor=b"ven"),
+}
+
+# How many times the time of before a walk may take, where it is not 1.1. That of THIRD was set after it was measured (docs/SPEED.md). For SIXTEEN none is asked.
+SLOWER = {SHORT: 1, THIRD: 1.4, FOUR: 1.2, SIXTEEN: float("inf")}
 
 # Data without contents: a writer copies what a walk passes over.
 OPAQUE = {"no contents, 32,736 bytes of data": 2 * sha1(ACTION, sample(32736))}
 
 
-def digests(count):
-    """A record of so many digests of size zero: the most fields to its bytes."""
-    return marker((SHA256, 0)) + agile(SEPARATOR, [(SHA256, b"")] * count, bytes(4))
+def digests(count, id=SHA1, size=20):
+    """A record of so many digests; those of SHA-1 are the most fields to its bytes. With another size than the id's own the marker is refused."""
+    return marker((id, size)) + agile(SEPARATOR, [(id, sample(size))] * count, bytes(4))
 
 
 def long_logs(folder, driver):
@@ -100,7 +113,7 @@ def stored_logs():
         real = f.read()
     every = WITH_TWO + b"".join(agile(event, [(SHA1, sample(20))], data) for event, data in compare_logs.SOUND) + b"\1\2"
     refused = sha1(ACTION, b"abc") + sha1(SEPARATOR, b"\xff" * 4) + sha1(*compare_logs.FAULTY[12])
-    return real, every, refused, sha1(SEPARATOR, bytes(4)) + b"\7", digests(20), bytes(3), b""
+    return real, every, refused, sha1(SEPARATOR, bytes(4)) + b"\7", digests(20, SHA256, 0), digests(20), bytes(3), b""
 
 
 def stored_tasks():
@@ -156,10 +169,12 @@ def read_to(driver, log):
 
 
 def records_and_sums(driver, log):
-    """How many records the oracle's lines have, the sum of the numbers in them (the word `bios` counts 1), and that of their serials."""
-    lines = lines_of(driver, log)[1:-1]
+    """How many records the oracle's lines have, the sum of the numbers in them (the word `bios` counts 1), and that of their serials. A marker that Req 04
+    refuses ends the log."""
+    lines = said(log, run([driver, "detail"], log)).records
+    serials = sum(serials_of(lines))
     told = sum(int(n) for line in lines for n in re.findall(r"\d+", line)) + sum(line.endswith("bios") for line in lines)
-    return len(lines), told, sum(serials_of(lines))
+    return len(lines), told - serials, serials
 
 
 def check(driver, log, size, times, line, is_before=False):
@@ -259,7 +274,7 @@ def row(*cells):
 
 
 def us(time):
-    return f"{time:,.0f}" if time >= 100 else f"{time:.1f}"
+    return f"{time:,.0f}" if time >= 100 else f"{time:.1f}" if time >= 1 else f"{time:.3f}"
 
 
 def whole_row(name, read, records, took):
@@ -284,15 +299,26 @@ def whole(ours, driver, title, logs, missed, bounds):
 
 
 def many_digests(ours, driver, missed):
-    table("One record of digests of size zero", "digests", "in one piece, µs", "a digest, ns", "one byte at a time, ms")
+    table("One record of digests of 20 bytes", "digests", "in one piece, µs", "a digest, ns", "one byte at a time, ms")
     each = []
-    for count in (4000, 8000, 16000):
+    for count in (372, 744, 1488):
         log = digests(count)
         piece, single = measured(Ours(ours, driver, log, ONE_PIECE), Ours(ours, driver, log, 1))
         each.append(piece / count)
         row(f"{count:,}", us(piece), f"{1000 * each[-1]:.1f}", f"{single / 1000:,.0f}")
     if each[-1] > 1.3 * each[0]:
         missed.append("many digests in one piece")
+
+
+def many_pairs(ours, driver, missed):
+    """The walk of a marker of many pairs, which is refused when all of them were looked at."""
+    table("Markers of many pairs", "marker", "bytes", "refused with", "walk, µs", "of the first")
+    took = measured(*(Ours(ours, driver, log, WALK) for log in MANY.values()))
+    for (name, log), one in zip(MANY.items(), took):
+        [answer] = ask(driver, [log])
+        row(name, f"{len(log):,}", said(log, answer).last.split()[1], us(one), f"{one / took[0]:.2f}")
+    if max(took[1:]) > 2.4 * took[0]:
+        missed.append("markers of many pairs")
 
 
 def by_pieces(ours, driver, folder):
@@ -312,12 +338,13 @@ def reading(ours, driver, folder, real, missed):
     whole(ours, driver, "Small records", SMALL, missed, dict.fromkeys(SMALL, 2))
     whole(ours, driver, "Text", TEXTS, missed, {PLAIN: 1})
     many_digests(ours, driver, missed)
+    many_pairs(ours, driver, missed)
     by_pieces(ours, driver, folder)
 
 
-def as_it_was(before, ours, driver, logs, missed):
+def as_it_was(before, ours, driver, title, logs, missed):
     """The walk as it was, against the walk."""
-    table("Before and after", "log", "before, µs", "after, µs", "after : before")
+    table(title, "log", "before, µs", "after, µs", "after : before")
     for name, log in logs.items():
         took = measured(Ours(before, driver, log, WALK, is_before=True), Ours(ours, driver, log, WALK))
         row(name, us(took[0]), us(took[1]), f"{took[1] / took[0]:.2f}")
@@ -340,6 +367,7 @@ def main():
     ways = arguments(__doc__)
     ways.add_argument("--write", metavar="COMMAND")
     ways.add_argument("--only-write", action="store_true")
+    ways.add_argument("--only-markers", action="store_true")
     ways.add_argument("--speed", metavar="COMMAND")
     ways.add_argument("--before", metavar="COMMAND")
     ways.add_argument("--gate", action="store_true")
@@ -354,7 +382,12 @@ def main():
     ours, driver, missed = program("speed", given.speed), driver_of(given), []
     real = long_logs(given.folder, driver)
     if given.before:
-        as_it_was(program("speed", given.before), ours, driver, {**real, **SMALL, **TEXTS}, missed)
+        before = program("speed", given.before)
+        if not given.only_markers:
+            as_it_was(before, ours, driver, "Before and after", {**real, **SMALL, **TEXTS}, missed)
+        as_it_was(before, ours, driver, "A marker alone, before and after", MARKERS, missed)
+    elif given.only_markers:
+        many_pairs(ours, driver, missed)
     else:
         if not given.only_write:
             reading(ours, driver, given.folder, real, missed)

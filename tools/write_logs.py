@@ -21,7 +21,7 @@ import compare_logs
 import entries
 import model
 from bench_model import weighed
-from maker import edited, listed, real_logs, sample, u8, u32
+from maker import KNOWN_PAIRS, edited, listed, real_logs, sample, u8, u32
 from model import LOG_MOST
 from oracle import arguments, ask, driver_of, lines_text, program, run, said
 
@@ -165,16 +165,19 @@ def again(given):
 # ---------------------------------------------------------------- logs that the writer made, read by the Rust
 
 def drawn_log(r):
-    """A log of either form, with digests of several tables; of the entries some are refused."""
-    sizes = dict(r.sample([(4, 20), (0xB, 32), (0xC, 48), (0xD, 64), (0xB, 5), (4, 0)], r.randrange(1, 5)))
+    """A log of either form, with digests of several tables; of the entries some are refused, at times a marker that Req 04 refuses before one that is written."""
+    sizes = dict(r.sample([*KNOWN_PAIRS, (0x12, 5), (0, 0)], r.randrange(1, 5)))
     is_agile, out = r.random() < .7, []
     if is_agile:
+        if r.randrange(10) == 0:
+            out.append(entries.marker(*r.choice((*entries.REFUSED_TABLES, [*sizes.items()] * 2))))
         out.append(entries.marker(*sizes.items(), vendor=sample(r.choice((0, 3)))))
     for _ in range(r.randrange(12)):
         event, data = r.choice(entries.TYPES)
         if r.randrange(20) == 0:
             data = edited(r, data)
-        ids = r.choices(list(sizes), k=r.choice((0, 1, 1, 2, 3))) if is_agile else [4]
+        some = [id for id in sizes if id in model.KNOWN_IDS or r.randrange(50) == 0]
+        ids = r.choices(some, k=r.choice((0, 1, 1, 2, 3)) if some else 0) if is_agile else [4]
         digests = listed(*((id, r.randbytes(sizes[id] if is_agile else 20)) for id in ids))
         out.append((entries.agile if is_agile else entries.sha1)(event, data, edited(r, digests) if r.randrange(30) == 0 else digests, r.randrange(1 << 32)))
     return entries.Log(entries.roomy(*out), sample(r.randrange(4)))

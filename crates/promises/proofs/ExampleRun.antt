@@ -50,11 +50,11 @@ module _ (h₁ h₂ : List ℕ) (full₁ : holdFull ≤ length h₁) (full₂ : 
 
   feed₁ : Feeds freshWalker h₁ separator taken₁
   unfolding walkComputing taken anyAbove
-  feed₁ = feed-says freshWalker h₁ full₁ (omega arith) (omega arith) refl refl refl separator (omega arith)
+  feed₁ = feed-says freshWalker h₁ full₁ (omega arith) (omega arith) (omega arith) refl refl separator (omega arith)
 
   close₁ : Closes (behind 1 0 36) h₂ closed₁
   unfolding walkComputing anyAbove
-  close₁ = (close-says (behind 1 0 36) h₂ full₂ (omega arith) (omega arith) refl refl refl, refl)
+  close₁ = (close-says (behind 1 0 36) h₂ full₂ (omega arith) (omega arith) (omega arith) refl refl, refl)
 
   pub at-once : Run separator freshWalker h₁ (fedCall separator h₁ taken₁ ∷ closeCall h₂ closed₁ ∷ [])
   unfolding dataComputing
@@ -100,23 +100,23 @@ module _ (h₁ j₂ h₃ j₄ h₅ : List ℕ) (full₁ : holdFull ≤ length h�
 
   feed-ten : Feeds freshWalker h₁ (take 10 separator) ten
   unfolding walkComputing taken anyAbove
-  feed-ten = feed-says freshWalker h₁ full₁ (omega arith) (omega arith) refl refl refl (take 10 separator) (omega arith)
+  feed-ten = feed-says freshWalker h₁ full₁ (omega arith) (omega arith) (omega arith) refl refl (take 10 separator) (omega arith)
 
   feed-first : Feeds (before 10 10) h₂ (drop 10 two) first
   unfolding walkComputing taken anyAbove
-  feed-first = feed-says (before 10 10) h₂ size₂ (omega arith) (omega arith) refl refl refl (drop 10 two) (omega arith)
+  feed-first = feed-says (before 10 10) h₂ size₂ (omega arith) (omega arith) (omega arith) refl refl (drop 10 two) (omega arith)
 
   feed-five : Feeds (behind 1 0 36) h₃ (take 5 separator) five
   unfolding walkComputing taken anyAbove
-  feed-five = feed-says (behind 1 0 36) h₃ full₃ (omega arith) (omega arith) refl refl refl (take 5 separator) (omega arith)
+  feed-five = feed-says (behind 1 0 36) h₃ full₃ (omega arith) (omega arith) (omega arith) refl refl (take 5 separator) (omega arith)
 
   feed-second : Feeds (behind 1 5 41) h₄ (drop 5 separator) second
   unfolding walkComputing taken anyAbove
-  feed-second = feed-says (behind 1 5 41) h₄ size₄ (omega arith) (omega arith) refl refl refl (drop 5 separator) (omega arith)
+  feed-second = feed-says (behind 1 5 41) h₄ size₄ (omega arith) (omega arith) (omega arith) refl refl (drop 5 separator) (omega arith)
 
   close-end : Closes (behind 2 0 72) h₅ end
   unfolding walkComputing anyAbove
-  close-end = (close-says (behind 2 0 72) h₅ full₅ (omega arith) (omega arith) refl refl refl, refl)
+  close-end = (close-says (behind 2 0 72) h₅ full₅ (omega arith) (omega arith) (omega arith) refl refl, refl)
 
   pub cut-anew : Run two freshWalker h₁
       (fedCall (take 10 separator) h₁ ten

@@ -28,10 +28,10 @@ abbrev digest : ℕ → ℕ → List ℕ
 digest id n = bytesOf 2 id ++ bytesOf 2 n ++ replicate n 0
 
 abbrev marker : Entry
-marker = entryOf Form.Sha1 0 3 (digest 4 20) (specId 2 (pair 0x000B 2 ∷ []) [])
+marker = entryOf Form.Sha1 0 3 (digest 4 20) (specId 2 (pair 0x000B 32 ∷ []) [])
 
 abbrev second : Entry
-second = entryOf Form.Agile 7 6 (digest 0x000B 2) (1 ∷ [])
+second = entryOf Form.Agile 7 6 (digest 0x000B 32) (1 ∷ [])
 
 given : Given marker × Given second
 unfolding computing
@@ -48,9 +48,9 @@ pub wrote : Writings openingShape (marker ∷ second ∷ []) bytes
 unfolding computing
 wrote =
     writes {n = 65} (write-some openingShape marker (given .0) (replicate 100 1)) refl
-    (writes {n = 21} (write-some _ second (given .1) (replicate 100 1)) refl rests)
+    (writes {n = 51} (write-some _ second (given .1) (replicate 100 1)) refl rests)
 
-log-length : length (bytes ++ (9 ∷ [])) ≡ 87
+log-length : length (bytes ++ (9 ∷ [])) ≡ 117
 unfolding computing
 log-length = refl
 

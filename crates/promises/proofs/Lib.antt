@@ -3,6 +3,7 @@
 --   ByTurns, Readers              the walk by turns; the readers on what a walk accepted
 --   Pieces, OwnAnswers, Range     feeding by pieces (demand 3)
 --   Standing                      serials, counts and tallies (document 02, Req 03)
+--   Sizes                         the last-size rule no longer shows from a fresh start (document 02, Req 04)
 --   Joined                        both: what a walk into slots says and what any run tells
 --   Writing, WritingByNumber      records and logs that are written (document 02, Req 01)
 --   OneOutcome                    each promise leaves one outcome
@@ -23,6 +24,7 @@ pub mod RunLaws
 pub mod Readers
 pub mod Pieces
 pub mod Standing
+pub mod Sizes
 pub mod Joined
 pub mod ExampleRun
 pub mod IdleFeeds

@@ -33,7 +33,7 @@ use Rattle.pieces.proofs.Promptness.{prompt, repeats, stays-shut}
 use Rattle.record.specs.declared.Shape.{Shape}
 use Rattle.record.specs.declared.Slot.{Slot}
 use Rattle.record.specs.Record.{judgeOf}
-use Rattle.record.proofs.RecordLaws.{record-steady, record-placed}
+use Rattle.record.proofs.RecordLaws.{record-steady, record-placed, placed-few}
 use Rattle.standing.specs.Serials.{wholeTold}
 use Rattle.standing.specs.Standing.{Standing, markBy, countsBy, anyAbove, markSlot, standingAfter, overTotal, countedJudge, opening}
 use Rattle.standing.proofs.StandingLaws.{neither}
@@ -62,7 +62,7 @@ feedable = record {
         let (bare, judged, marked, moved) = counted-sound st base p slot n next j in
         let (a, b) = neither (ltb pairsMost (st .shape .pairs .count)) (overTotal base (st .account)) ok in
         let pairs = le-ltb pairsMost (next .shape .pairs .count)
-        (record-placed (st .shape) base p bare n (next .shape) judged .few (ltb-false pairsMost (st .shape .pairs .count) a)) in
+        (placed-few (record-placed (st .shape) base p bare n (next .shape) judged) (ltb-false pairsMost (st .shape .pairs .count) a)) in
         let over = over-after (st .shape) base p bare n (next .shape) judged (st .account) b in
         rw (pairs, moved, over)
 

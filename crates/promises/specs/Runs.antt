@@ -5,6 +5,7 @@
 --   Run log w last cs   a run: each feed is given any beginning of the log's bytes not taken yet, a close comes when none are left, after a stop any
 --                       call may follow, and each hold has full size and agrees with the last on the held bytes only
 --   InOrder ps w last cs   the calls that feed a list of pieces in order, what is left of a piece again after a record, and then close
+--   Called w            some calls from a fresh walker on, of any pieces and over any holds, left the walker w
 --   callOf, callsOf     the same calls in the terms of `pieces`, over which `Prompt` is stated
 -- Assumes nothing.
 use Prim.Native.Nat.{ℕ}
@@ -20,7 +21,7 @@ use Rattle.record.specs.declared.Shape.{Shape}
 use Rattle.record.specs.declared.Slot.{Slot}
 use Rattle.standing.specs.Standing.{Standing}
 use Rattle.walker.specs.declared.Walker.{Walker}
-use Rattle.walker.specs.Walker.{walkerOf, replyBy, FeedSays, CloseSays}
+use Rattle.walker.specs.Walker.{walkerOf, replyBy, freshWalker, FeedSays, CloseSays}
 
 abbrev pub Feeds : Walker → List ℕ → List ℕ → Outcome Walker Slot → Type 0
 Feeds w hold piece o = FeedSays w hold piece (replyBy o) (o .walker) (o .hold)
@@ -39,6 +40,11 @@ Run log w last cs = R.Run holdFull heldBy Feeds Closes log w last cs
 
 abbrev pub InOrder : List (List ℕ) → Walker → List ℕ → List Call → Type 0
 InOrder ps w last cs = R.InOrder holdFull heldBy Feeds Closes ps w last cs
+
+pub data Called : Walker → Type 0 where
+  opened : Called freshWalker
+  afterFeed : {w : Walker} (hold piece : List ℕ) (o : Outcome Walker Slot) → Called w → Feeds w hold piece o → Called (o .walker)
+  afterClose : {w : Walker} (hold : List ℕ) (o : Outcome Walker Slot) → Called w → Closes w hold o → Called (o .walker)
 
 abbrev pub callOf : Call → R.Call (F.Walker (With Shape Standing)) Slot
 callOf c = callSeen walkerOf c
