@@ -16,7 +16,7 @@ import sys
 import bench_sample as sample
 import model
 from bench_model import REFUSALS, Bench
-from maker import C, E, F, G, H, L, M, N, P, S, U, W, X, agile, bank, c, edited, f, listed, pairs, u16, u32, variable, wide
+from maker import C, E, F, G, H, L, M, N, P, S, U, W, X, agile, bank, c, edited, f, listed, pairs, u16, u32, u64, variable, wide
 from oracle import run
 
 SIZES = {4: 20, 0xB: 32, 0xC: 48}
@@ -24,7 +24,7 @@ SOUND = [
     (1, b"abc\0"), (0xD, b""), (0x80000007, "Ünï€𝄞".encode()), (8, wide("a\0")), (8, b""), (4, bytes(4)), (4, b"\xFF" * 4), (4, b"abc"),
     (3, sample.spec_id()), (5, b""), (0x12, b"abc"), (0x80000009, bytes(16)), (0x80000008, bytes(16)), (0x80000001, bytes(32)),
     (0x800000E0, variable("db", b"x")), (0x80000003, sample.image(sample.PATH, b"x")), (0x80000005, sample.image()),
-    (0x80000006, sample.TWO_ENTRIES), (0x80000006, sample.header() + bytes(40)), (0xFFFFFFFF, b"?"),
+    (0x80000006, sample.TWO_ENTRIES), (0x80000006, sample.header() + bytes(8)), (0xFFFFFFFF, b"?"),
 ]
 
 OFTEN = (0, 4, 23)  # registers that many records name
@@ -154,8 +154,16 @@ def written(r):
     return out + [E(an_entry(r, int(agile_next)), r.choice((0, 32, 37, 100, 400, 2000, 65536))) for _ in range(r.randrange(8))]
 
 
+def a_table(r):
+    """GPT data, most often with the right count and an entry size and a header size that may be."""
+    n, e, s = r.randrange(4), r.choice((128, 128, 128, 256, 130, 384)), r.choice((92, 92, 96, 93))
+    count = n if r.randrange(4) else r.choice((n + 1, n + (1 << 57), n << 8, 0))
+    entries = b"".join(sample.entry(r.choice(("a", "", u16(0xD800))), e, rest=bytes(e - 128)) for _ in range(n))
+    return sample.header(size=s, entry_size=e) + bytes(s - 92) + u64(count) + entries
+
+
 def read(r):
-    path, table = damaged(r, sample.PATH), damaged(r, sample.TWO_ENTRIES + bytes(r.choice((0, 1, 2, 128))))
+    path, table = damaged(r, sample.PATH), damaged(r, r.choice((sample.TWO_ENTRIES, a_table(r))) + bytes(r.choice((0, 0, 0, 1, 128))))
     text = r.choice((b"abc\0", "Ünï€𝄞\0".encode(), wide("𝄞a\0"), b"\xED\x9F\xBF", u16(0xD800) + u16(0xDFFF)))
     return [P(r.choice((0, 1, 3, 9, 10)), path), G(r.randrange(3), table), U(damaged(r, text)), X(damaged(r, text))]
 

@@ -5,8 +5,8 @@
 
 COMMAND with its words starts the listing, which reads the log on standard input. To be run from the top of the repository. It ends with 1 where they
 differ. The logs: both sides of the limit and what is far past it, registers that come again, markers with pairs of every sort, each kind of contents in each
-kind of log, records that are refused or cut, tails, and the sample of real firmware, whole and damaged. Some come a few bytes a read as well. They are the same in
-every run."""
+kind of log, GPT data with and without a count, records that are refused or cut, tails, and the sample of real firmware, whole and damaged. Some come a few bytes a
+read as well. They are the same in every run."""
 import contextlib
 import random
 import socket
@@ -31,6 +31,12 @@ BORDERS = (
     ("an id twice, the second time in the seventeenth pair", marker(*pairs(17, {0: (SHA1, 20), 16: (SHA1, 20)}))),
     ("an id twice, the second time in the last pair that fits", marker(*pairs(MOST_PAIRS, {0: (SHA1, 20), MOST_PAIRS - 1: (SHA1, 20)}))),
     ("a size that is not the id's own", named(SHA256, 1)),
+    ("a GPT with a count of none", sha1(GPT, gpt())),
+    ("a GPT with 254 entries", sha1(GPT, gpt(entries=[entry("x")] * 254))),
+    ("a GPT without a count", sha1(ACTION, b"x") + sha1(GPT, gpt(220, count=b""))),
+    ("a GPT whose count wraps", sha1(GPT, gpt(count=(1 << 57) + 1, entries=[entry("x")]))),
+    ("a GPT with a header size of 0", sha1(GPT, gpt(200, size=0))),
+    ("a GPT with an entry size of 384", sha1(GPT, gpt(entry_size=384))),
     ("65,535 bytes", LONGEST[:-1]),
     ("65,536 bytes", LONGEST),
     ("65,537 bytes", LONGEST + bytes(1)),

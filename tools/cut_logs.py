@@ -24,7 +24,7 @@ from model import LOG_MOST, NO_ACTION
 image = functools.partial(maker.image, head=u64(0x1000) + u64(0x200) + u64(0))
 drive = functools.partial(maker.drive, head=u32(1) + u64(2048) + u64(4096) + bytes(16))
 variable = functools.partial(maker.variable, guid=bytes(16))
-gpt = functools.partial(maker.gpt, gap=0, fill=bytes(92))
+gpt = functools.partial(maker.gpt, fill=bytes(92))
 
 
 def agile(event, sizes, data):
@@ -53,8 +53,8 @@ STARRED = {
     "path_of_an_end_node": sha1(IMAGE, image(END)),
     "fault_in_the_second_node": sha1(IMAGE, image(node(1, 1, bytes(3)) + drive(3))),
     "variable_of_zeros": sha1(VARIABLE, variable()),
-    "gpt_two_entries": sha1(GPT, gpt(356, 92, 128)),
-    "gpt_no_entries": sha1(GPT, gpt(220, 92, 128)),
+    "gpt_a_count_of_two": sha1(GPT, gpt(356, count=2)),
+    "gpt_220": sha1(GPT, gpt(220, count=b"")),
     "utf8_c0_80": sha1(TEXT, b"\xC0\x80"),
     "wide_d800_alone": sha1(WIDE_TEXT, u16(0xD800)),
     "wide_three_bytes": sha1(WIDE_TEXT, b"a\0b"),
@@ -68,7 +68,7 @@ UNSTARRED = {
     "node_length_5": sha1(IMAGE, image(node(0x7F, 0xFF, length=5))),
     "variable_31": sha1(VARIABLE, bytes(31)),
     "variable_units_2_63": sha1(VARIABLE, variable(units=1 << 63)),
-    "gpt_header_72": sha1(GPT, gpt(200, 0, 128)),
+    "gpt_header_size_0": sha1(GPT, gpt(200, 0, count=b"")),
 }
 
 # ---------------------------------------------------------------- what the bench has not
@@ -84,7 +84,6 @@ OURS = {
     "digest_too_far": marker((SHA256, 32767)) + agile(SEPARATOR, [(SHA256, 3)], b""),
     "second_id_undeclared": marker((SHA256, 32)) + agile(SEPARATOR, [(SHA256, 32), (SHA1, 20)], b""),
     "count_cut": marker((SHA256, 32)) + u32(0) + u32(SEPARATOR) + b"\1\0",
-    "seventeen_like_pairs": marker(*[(SHA256, 32)] * 17),
     "signature_02": marker(signature=b"Spec ID Event02\0"),
     "blob_17": marker(*BANKS) + agile(SEPARATOR, BANKS, u32(0)) + agile(BLOB, BANKS, bytes(17)),
     "text_after_text": sha1(TEXT, b"ab\0\0") + sha1(WIDE_TEXT, wide("å1\0")) + sha1(TEXT, b"\xED\xA0\x80"),
@@ -97,8 +96,7 @@ OURS = {
 # What those of OURS were about that Req 04 refuses, with sizes of their own; and the refusals of pairs.
 PAIRS = {
     "five_digests": marker((SHA1, 20)) + agile(SEPARATOR, [(SHA1, 20)] * 5, u32(0)) + b"\1\2",
-    "digest_too_far": marker((SHA512, 64)) + maker.agile(SEPARATOR, [(SHA512, bytes(64))] * 496, b"", count=497)[:-4] + u16(SHA512) + bytes(3),
-    "200_digests": marker((SHA1, 20)) + agile(SEPARATOR, [(SHA1, 20)] * 200, u32(0)) + b"\1",
+    "100_digests": marker((SHA1, 20)) + agile(SEPARATOR, [(SHA1, 20)] * 100, u32(0)) + b"\1",
     "registers_again_agile": AGAIN["agile"],
     "registers_again_agile_few": first_records(AGAIN["agile"], 7),
     "sixteen_pairs": marker(*pairs(16)) + agile(SEPARATOR, [(SHA512, 64), (SHA384, 48)], u32(0)) + b"\1",
@@ -107,12 +105,30 @@ PAIRS = {
     "a_doubled_unknown_id": marker((0x0012, 5), (0x0012, 5)) + b"\1",
     "the_first_and_the_seventeenth_id": marker(*pairs(17, {0: (SHA1, 20), 16: (SHA1, 20)}), vendor=b"ven"),
     "an_odd_size": marker((SHA1, 20), (SHA512, 63)),
-    "an_odd_size_in_the_seventeenth": marker(*pairs(17, {16: (SHA384, 64)})),
     "300_pairs_and_the_last_doubled": marker(*pairs(300, {0: (SHA256, 32), 299: (SHA256, 32)})),
 }
 
-# For the long run alone.
+# What Req 05 takes and what it refuses, and the faults of entries.
+GPTS = {
+    "gpt_a_count_of_none": sha1(GPT, gpt()) + b"\1",
+    "gpt_a_longer_header": sha1(GPT, gpt(size=101)) + sha1(SEPARATOR, u32(0)),
+    "gpt_an_entry_of_256": marker(*BANKS) + maker.agile(GPT, [], gpt(size=94, entry_size=256, entries=[maker.entry("x", 256)])) + b"\1",
+    "gpt_header_size_91": sha1(GPT, gpt(size=91)),
+    "gpt_entry_size_384": sha1(GPT, gpt(entry_size=384)),
+    "gpt_count_cut": sha1(GPT, gpt(99)),
+    "gpt_one_entry_more": sha1(GPT, gpt(count=0, entries=[maker.entry("x")])),
+    "gpt_a_count_that_wraps": sha1(GPT, gpt(count=(1 << 57) + 1, entries=[maker.entry("x")])),
+    "gpt_an_odd_header": sha1(SEPARATOR, u32(0)) + sha1(GPT, gpt(size=93, entries=[maker.entry("x")])),
+    "gpt_a_name_in_the_second": sha1(GPT, gpt(entries=[maker.entry("x"), maker.entry(u16(0xDC00)), maker.entry(u16(0xD800))])),
+}
+
+# For the long run alone. What is at the limits is long, and the digests of a record are read again at each byte; a marker of more than sixteen pairs takes its time
+# too, and two of them are above.
 LONG = {
+    "seventeen_like_pairs": marker(*[(SHA256, 32)] * 17),
+    "an_odd_size_in_the_seventeenth": marker(*pairs(17, {16: (SHA384, 64)})),
+    "200_digests": marker((SHA1, 20)) + agile(SEPARATOR, [(SHA1, 20)] * 200, u32(0)) + b"\1",
+    "digest_too_far": marker((SHA512, 64)) + maker.agile(SEPARATOR, [(SHA512, bytes(64))] * 496, b"", count=497)[:-4] + u16(SHA512) + bytes(3),
     "size_32737": sha1(ACTION, bytes(32737)),
     "1488_digests": marker((SHA1, 20)) + agile(SEPARATOR, [(SHA1, 20)] * 1488, bytes(16)) + b"\1",
     "1489_digests": marker((SHA1, 20)) + agile(SEPARATOR, [(SHA1, 20)] * 1489, b""),
@@ -137,7 +153,7 @@ def damaged(log, r):
 
 def gate_logs(folder):
     r, real = random.Random(7), real_logs(folder)
-    logs = [*STARRED.values(), *UNSTARRED.values(), *OURS.values(), *PAIRS.values()]
+    logs = [*STARRED.values(), *UNSTARRED.values(), *OURS.values(), *PAIRS.values(), *GPTS.values()]
     logs += [damaged(log, r) for log in logs if 60 < len(log) < 1000]
     return logs + [
         first_records(real["pkg-rust-uefi-0.37-test_event_log_v2.bin"], 3, 3),
@@ -149,7 +165,8 @@ def gate_logs(folder):
 def all_logs(folder, copies):
     """The one real log over the limit is cut there."""
     r = random.Random(11)
-    logs = [*STARRED.values(), *UNSTARRED.values(), *OURS.values(), *PAIRS.values(), *LONG.values(), *(log[:LOG_MOST] for log in real_logs(folder).values())]
+    logs = [*STARRED.values(), *UNSTARRED.values(), *OURS.values(), *PAIRS.values(), *GPTS.values(), *LONG.values()]
+    logs += [log[:LOG_MOST] for log in real_logs(folder).values()]
     return logs + [damaged(log, r) for log in logs for _ in range(copies)]
 
 

@@ -128,7 +128,8 @@ def contents_refused(is_first):
     nodes = node(1, 1, b"ab") + node(1, 1, b"abc") + END
     yield from ((0x80000003, image(nodes)), (0x80000004, image(nodes + drive(3))), (0x80000005, image(END + node(4, 4, units(0xD800)))),
                 (0x80000003, image(END + node(1, 1, b"", length=3))), (0x80000003, image(END * 3 + node(1, 1, b"", length=9))))
-    yield 0x80000006, gpt(entries=[entry("x"), entry("y"), entry(units(0xDC00))])
+    yield from ((0x80000006, data) for data in (gpt(entries=[entry("x"), entry("y"), entry(units(0xDC00))]), gpt(220, count=b""),
+                                                gpt(entries=[entry("x")], count=(1 << 57) + 1)))
     yield 8, wide("a") + b"\0"
     if is_first:
         yield from ((NO_ACTION, data) for data in (b"", b"no Spec ID", spec_id()[:28], spec_id(signature=b"Spec ID Event02\0"), spec_id(uintn=1), spec_id(uintn=0), spec_id() + b"x",

@@ -105,9 +105,12 @@ def entry(name, size=128, salt=0, head=None, rest=None):
     return (head + wide(name)[:72].ljust(72, b"\0") + given(rest, sample(max(size - 128, 0))))[:size]
 
 
-def gpt(length=None, size=92, entry_size=128, entries=(), gap=8, **fields):
-    """A header, a gap and entries; with a length, cut there or filled up with zeros."""
-    b = header(size, entry_size, **fields) + sample(gap) + b"".join(entries)
+def gpt(length=None, size=92, entry_size=128, entries=(), count=None, reserved=None, **fields):
+    """A header, what is reserved up to its size, how many entries 8, the entries; with a length, cut there or filled up with zeros. A count may be any bytes, or
+    none."""
+    reserved = given(reserved, sample(size - 92) if 92 < size <= RECORD_MOST else b"")
+    count = given(count, len(entries))
+    b = header(size, entry_size, **fields) + reserved + (count if isinstance(count, bytes) else u64(count)) + b"".join(entries)
     return b if length is None else b[:length].ljust(length, b"\0")
 
 

@@ -30,8 +30,8 @@ import tempfile
 import compare_logs
 import entries
 from bench_model import weighed
-from maker import (ACTION, KNOWN_PAIRS, MOST_PAIRS, SEPARATOR, SHA1, SHA256, SMALLEST, TEXT, WIDE_TEXT, WITH_TWO, agile, marker, pairs, real_logs, sample, sha1,
-                   wide)
+from maker import (ACTION, GPT, KNOWN_PAIRS, MOST_PAIRS, SEPARATOR, SHA1, SHA256, SMALLEST, TEXT, WIDE_TEXT, WITH_TWO, agile, entry, gpt, marker, pairs,
+                   real_logs, sample, sha1, wide)
 from model import LOG_MOST
 from oracle import arguments, ask, driver_of, program, run, said, serials_of
 from write_logs import entry_bytes
@@ -72,6 +72,12 @@ TEXTS = {
     "UTF-8, two to four bytes a character": texts(TEXT, ("\u20ac\u4e2d\U0001F600\U00020000" + 9 * "\u00e9").encode()),
     SHORT: short_texts(),
     "wide text": texts(WIDE_TEXT, wide("abcdef")),
+}
+
+# As many entries as fit a record, and as many records of two entries as fit a log.
+TABLES = {
+    "GPT, 254 entries": 2 * sha1(GPT, gpt(entries=[entry("EFI system", salt=i) for i in range(254)])),
+    "GPT, two entries": filled(b"", sha1(GPT, gpt(entries=[entry("EFI system"), entry("Linux")]))),
 }
 
 # Logs that are a marker and no more. Those of many pairs have no id twice, and are refused with 11; or the last pair has the first one's id, and it is 9.
@@ -169,21 +175,22 @@ def read_to(driver, log):
 
 
 def records_and_sums(driver, log):
-    """How many records the oracle's lines have, the sum of the numbers in them (the word `bios` counts 1), and that of their serials. A marker that Req 04
-    refuses ends the log."""
+    """How many records the oracle's lines have, the sum of the numbers in them (the word `bios` counts 1), that of their serials, and how many bytes GPT headers
+    had reserved before Req 05 and have no more. A marker that Req 04 refuses ends the log, and so do GPT data that Req 05 refuses."""
     lines = said(log, run([driver, "detail"], log)).records
     serials = sum(serials_of(lines))
     told = sum(int(n) for line in lines for n in re.findall(r"\d+", line)) + sum(line.endswith("bios") for line in lines)
-    return len(lines), told - serials, serials
+    return len(lines), told - serials, serials, 8 * sum(" gpt " in line for line in lines)
 
 
 def check(driver, log, size, times, line, is_before=False):
-    """Holds a line of our program to the oracle; gives the records of one walk. As it was before it had serials, its sum is without them."""
-    records, told, serials = records_and_sums(driver, log)
+    """Holds a line of our program to the oracle; gives the records of one walk. As it was before Req 05, its sum has the bytes of the counts; before it had
+    serials, it is without them."""
+    records, told, serials, more = records_and_sums(driver, log)
     word = f"pieces of {size}" if size else "walk"
     calls = str((records + 1) * times) if size == WALK else r"\d+"
     must = f"{word} bytes {len(log)} times {times} calls {calls} records {records * times} sum"
-    sums = (told + serials, told) if is_before else (told + serials,)
+    sums = (told + serials, told + serials + more, told + more) if is_before else (told + serials,)
     if not any(re.fullmatch(f"{must} {n * times % 2**64}", line) for n in sums):
         sys.exit(f"speed: {line}\nthe oracle has {records} records and the sum {sums[0]}")
     return records
@@ -337,6 +344,7 @@ def reading(ours, driver, folder, real, missed):
     whole_row("all together", "", "", together)
     whole(ours, driver, "Small records", SMALL, missed, dict.fromkeys(SMALL, 2))
     whole(ours, driver, "Text", TEXTS, missed, {PLAIN: 1})
+    whole(ours, driver, "Partition tables", TABLES, missed, {})
     many_digests(ours, driver, missed)
     many_pairs(ours, driver, missed)
     by_pieces(ours, driver, folder)
@@ -384,14 +392,14 @@ def main():
     if given.before:
         before = program("speed", given.before)
         if not given.only_markers:
-            as_it_was(before, ours, driver, "Before and after", {**real, **SMALL, **TEXTS}, missed)
+            as_it_was(before, ours, driver, "Before and after", {**real, **SMALL, **TEXTS, **TABLES}, missed)
         as_it_was(before, ours, driver, "A marker alone, before and after", MARKERS, missed)
     elif given.only_markers:
         many_pairs(ours, driver, missed)
     else:
         if not given.only_write:
             reading(ours, driver, given.folder, real, missed)
-        writing(ours, program("write_speed", given.write), driver, {**real, **SMALL, **TEXTS, **OPAQUE}, missed)
+        writing(ours, program("write_speed", given.write), driver, {**real, **SMALL, **TEXTS, **TABLES, **OPAQUE}, missed)
     print("".join(f"\nmissed: {bound}" for bound in missed))
     return 1 if missed else 0
 

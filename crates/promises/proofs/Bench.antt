@@ -9,4 +9,4 @@ use Rattle.promises.specs.Bench.{listedOf, starred, Each}
 pub bench : Each starred
 unfolding dataComputing recordComputing walkF walk wholeWalk howMany numbered listedOf
 bench =
-    (refl, (refl, (refl, (refl, (refl, (refl, (refl, (refl, (refl, (refl, (refl, (refl, (refl, (refl, (refl, (refl, (refl, tt)))))))))))))))))
+    (refl, (refl, (refl, (refl, (refl, (refl, (refl, (refl, (refl, (refl, (refl, (refl, (refl, (refl, (refl, (refl, (refl, (refl, tt))))))))))))))))))
