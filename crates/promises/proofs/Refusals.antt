@@ -1,7 +1,7 @@
 -- Every refusal of a walk into slots is explained: each row of document 01's table as an "if and only if", for every log and any number of
 -- slots. rs are the records that were handed out, each with its serial (`Numbered`). Where the refusal is of the log itself (2 to 11) they are the longest chain of well-formed
 -- records that begins it.
---   refused-too-long (1), refused-cut (2), refused-too-far (3), refused-unknown (4), refused-unsound (5 to 11), refused-no-slot (12)
+--   refused-too-long (1), refused-cut (2), refused-too-far (3), refused-unknown (4), refused-unsound (those of contents), refused-no-slot (12)
 --   longest           no chain of well-formed records that begins the log goes further
 --   never-of-feeding  13 and 14 are never answers of a walk
 -- Assumes nothing.
@@ -48,7 +48,7 @@ module _ (log : List ℕ) (old : List Slot) (r : Walked) (slots : List Slot) (sa
   pub refused-unknown : Refused Why.AlgorithmUnknown ↔ Broke Why.AlgorithmUnknown
   refused-unknown = filled log old r slots says rs (refusedWith Why.AlgorithmUnknown at)
 
-  -- 5 to 11: after rs follows a whole record, and this is what is wrong with its data, and where.
+  -- Those of contents: after rs follows a whole record, and this is what is wrong with its data, and where.
   pub refused-unsound : (why : Why) → OfContents why → Refused why ↔ Broke why
   refused-unsound why h = subst (λ o. Refused why ↔ Numbered (λ bare. MeansBy (length old) log bare o why at) rs) h (filled log old r slots says rs (refusedWith why at))
 

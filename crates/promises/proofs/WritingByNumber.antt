@@ -1,7 +1,7 @@
 -- The writer's refusals one by one (document 02, Req 01): a call answers with this number at this place if and only if its own row holds (specs/Faults.antt of
 -- `write`). `WriteSays` is the promise of the code.
 --   by-18, by-4, by-16, by-3, by-17   each of the writer's own numbers
---   by-contents                       5 to 11, and whatever numbers contents may have
+--   by-contents                       whatever numbers contents may have
 -- Assumes nothing.
 use Prim.Native.Nat.{ℕ, _≤_, _<_}
 use mathlib.Core.Path.{_≡_, refl, sym, ap, _∙_}
@@ -153,7 +153,7 @@ module _ (sh : Shape) (e : Entry) (old : List ℕ) (r : Wrote) (new : List ℕ) 
     λ ((ds, l), f, z). rw z (write-refused sh e old r new says _ .1 (reach l f)),
   )
 
-  -- 5 to 11: besides, it has at most 32,768, and this is what is wrong with its data.
+  -- Those of contents: besides, it has at most 32,768, and this is what is wrong with its data.
   pub by-contents : (why : Why) (at : ℕ) → OfContents why
       → Answers why at ↔ (AllListed sh e room is × (length (recordBytes e) ≤ recordMost) × Faulted sh e room is (refusalOf why at))
   by-contents why at o = (
