@@ -16,7 +16,7 @@ import sys
 import bench_sample as sample
 import model
 from bench_model import REFUSALS, Bench
-from maker import C, E, F, G, H, L, M, N, P, S, U, W, X, agile, bank, c, edited, f, listed, pairs, u16, u32, u64, variable, wide
+from maker import C, E, F, G, H, L, M, N, P, S, U, W, X, agile, bank, c, edited, f, half_mended, listed, pairs, summed, u16, u32, u64, variable, wide, with_sum
 from oracle import run
 
 SIZES = {4: 20, 0xB: 32, 0xC: 48}
@@ -33,8 +33,8 @@ SOME = model.Entry(0, 0, 5, b"", b"")
 
 
 def damaged(r, b):
-    """Most often as it is."""
-    return edited(r, b) if r.randrange(4) == 0 else b
+    """Most often as it is. Of GPT headers that are damaged every second has its sum mended."""
+    return half_mended(r, edited(r, b)) if r.randrange(4) == 0 else b
 
 
 def a_register(r):
@@ -69,7 +69,7 @@ def a_log(r):
     start = sample.marker(*some_pairs(r), vendor=b"v" * r.randrange(3), uintn=r.choice((2,) * 39 + (1,)))
     start = damaged(r, start) if is_agile else b""
     rest = [a_record(r, is_agile) for _ in range(r.choice((0, 1, 2, 3, 5, 66)))]
-    return damaged(r, start + b"".join(edited(r, x) if r.random() < 0.02 else x for x in rest) + bytes(r.randrange(5)))
+    return damaged(r, start + b"".join(half_mended(r, edited(r, x)) if r.random() < 0.02 else x for x in rest) + bytes(r.randrange(5)))
 
 
 def some_numbers(r, often, n, total):
@@ -155,11 +155,12 @@ def written(r):
 
 
 def a_table(r):
-    """GPT data, most often with the right count and an entry size and a header size that may be."""
+    """GPT data, most often with the right count, the right sum and an entry size and a header size that may be."""
     n, e, s = r.randrange(4), r.choice((128, 128, 128, 256, 130, 384)), r.choice((92, 92, 96, 93))
     count = n if r.randrange(4) else r.choice((n + 1, n + (1 << 57), n << 8, 0))
     entries = b"".join(sample.entry(r.choice(("a", "", u16(0xD800))), e, rest=bytes(e - 128)) for _ in range(n))
-    return sample.header(size=s, entry_size=e) + bytes(s - 92) + u64(count) + entries
+    table = summed(sample.header(size=s, entry_size=e) + bytes(s - 92) + u64(count) + entries)
+    return table if r.randrange(8) else with_sum(table, model.num(table, 16, 4) ^ 1 << r.randrange(32))
 
 
 def read(r):
@@ -171,7 +172,7 @@ def read(r):
 def bad(r):
     """A command that is unknown, cut short, or has a field outside its values; sometimes none."""
     return r.choice((
-        b"", b"Z", b"\0", L(65, b""), L(64, b"abc")[:-1], L(64, b"")[:-1], W()[:-1], W()[:400], W(kind=3), W(kept=3), W(kept=2), W(kept=2, number=15), W(kept=2, number=19),
+        b"", b"Z", b"\0", L(65, b""), L(64, b"abc")[:-1], L(64, b"")[:-1], W()[:-1], W()[:400], W(kind=3), W(kept=3), W(kept=2), W(kept=2, number=19),
         H(65537, b""), H(2, b"abc"), H(9, b"abc")[:-1], F(b"abc")[:-2], f(b"abc")[:3], F(bytes(131073)), P(0, b"abc")[:-1],
         G(0, b"abc")[:-1], M()[:-1], M(kind=3), E(SOME, 65537), E(SOME, 9)[:-1], E(SOME._replace(form=2), 9), E(SOME._replace(data=bytes(131073)), 9), U(b"abc")[:-1], X(b"abc")[:-1], b"P", b"U" + u32(0xFFFFFFFF), F(bytes(131072)), U(bytes(131072)),
     ))

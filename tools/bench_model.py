@@ -11,7 +11,7 @@ import model
 from maker import COUNTED_MOST, ROOM_MOST, SLOTS
 
 HOLD_MOST = 65536
-REFUSALS = (*range(1, 15), 16, 17, 18)
+REFUSALS = range(1, 19)
 
 
 class Bad(Exception):

@@ -5,8 +5,8 @@
 
 COMMAND with its words starts the listing, which reads the log on standard input. To be run from the top of the repository. It ends with 1 where they
 differ. The logs: both sides of the limit and what is far past it, registers that come again, markers with pairs of every sort, each kind of contents in each
-kind of log, GPT data with and without a count, records that are refused or cut, tails, and the sample of real firmware, whole and damaged. Some come a few bytes a
-read as well. They are the same in every run."""
+kind of log, GPT data with and without a count and with another sum, records that are refused or cut, tails, and the sample of real firmware, whole and damaged,
+with the sum of its GPT header mended in every second copy. Some come a few bytes a read as well. They are the same in every run."""
 import contextlib
 import random
 import socket
@@ -15,7 +15,7 @@ import sys
 
 import model
 from maker import (ACTION, AGAIN, BLOB, END, FRAMES, GPT, IMAGE, KNOWN_PAIRS, MOST_PAIRS, SEPARATOR, SHA1, SHA256, TEXT, VARIABLE, WIDE_TEXT, agile,
-                   cut_or_changed, entry, framed, gpt, image, marker, named, pairs, sha1, u64, variable, wide)
+                   cut_or_changed, entry, every_second_mended, framed, gpt, image, marker, named, pairs, sha1, u64, variable, wide)
 from oracle import lines_text, run
 
 SHORTEST = sha1(0, b"")
@@ -37,6 +37,9 @@ BORDERS = (
     ("a GPT whose count wraps", sha1(GPT, gpt(count=(1 << 57) + 1, entries=[entry("x")]))),
     ("a GPT with a header size of 0", sha1(GPT, gpt(200, size=0))),
     ("a GPT with an entry size of 384", sha1(GPT, gpt(entry_size=384))),
+    ("a GPT with another sum", sha1(ACTION, b"x") + sha1(GPT, gpt(sum=0))),
+    ("a GPT with another sum and a faulty entry", sha1(GPT, gpt(entries=[entry(b"\0\xD8")], sum=0))),
+    ("a GPT with another sum and no count", sha1(GPT, gpt(220, count=b"", sum=0))),
     ("65,535 bytes", LONGEST[:-1]),
     ("65,536 bytes", LONGEST),
     ("65,537 bytes", LONGEST + bytes(1)),
@@ -71,7 +74,7 @@ def listings(command):
     """Each log with its name, and what is printed of it."""
     with open("crates/list/stdin", "rb") as file:
         sample = file.read()
-    damaged = ((f"the sample, copy {k}", copy) for k, copy in enumerate(cut_or_changed(random.Random(7), sample, 48)))
+    damaged = ((f"the sample, copy {k}", copy) for k, copy in enumerate(every_second_mended(cut_or_changed(random.Random(7), sample, 48))))
     for name, log in (*BORDERS, *framed_logs(), ("the sample", sample), *damaged):
         yield name, log, run(command, log)
     for name, log in (*BORDERS, ("the sample", sample)):

@@ -10,10 +10,11 @@ oracle/build.sh is run, unless target/oracle/driver is there. To be run from the
 Every log of tools/compare_logs.py is walked by the bench over 64 slots and by the oracle, and the lines of all records and the last line must
 be the same. A sample is also fed in pieces, by value and where the walker lies; of another the nodes and entries are read by index; and ten thousand
 go through the listing. tools/oracle.py says what ours must be, also where the Rust has no answer, where it takes a marker that Req 04 refuses, and where it reads
-GPT data that Req 05 refuses. Of such markers some are gone on with, by a made-up walker that has the marker's pairs.
+GPT data that Req 05 or Req 06 refuses. Of such markers some are gone on with, by a made-up walker that has the marker's pairs.
 
 It prints how many were compared, by kind and by the last line of the Rust, and every difference; it ends with 1 if there is one. Logs whose marker Req 04 refuses
-are counted by themselves, those with an id twice and those with another size than an id's own; and so are those with GPT data that Req 05 refuses, by its four tests.
+are counted by themselves, those with an id twice and those with another size than an id's own; and so are those with GPT data that Req 05 refuses, by its four tests,
+and those with another sum, which Req 06 refuses.
 """
 import collections
 import itertools
@@ -23,8 +24,8 @@ import sys
 
 import compare_logs
 from model import LOG_MOST
-from oracle import (UNCOUNTED, arguments, ask, drawn_pieces, driver_of, fed, fed_behind, goes_on, last_words, listed, lists_of, program, read, run, rust_words, said,
-                    walked)
+from oracle import (OTHER_SUM, UNCOUNTED, arguments, ask, drawn_pieces, driver_of, fed, fed_behind, goes_on, last_words, listed, lists_of, program, read, run,
+                    rust_words, said, walked)
 
 FED, MADE_UP, READ, LISTED = 60, 5, 12, 125  # one log of so many is fed, fed to a made-up walker (of those that Req 04 refuses), read, listed
 FED_OF = {"document 01": 1, "limits": 10, "real logs": 10, "registers": 10}
@@ -66,6 +67,8 @@ def compare(kind, logs, turn, r, programs, counts):
             counts["the marker", last_words(one.without)] += 1
         if one.why in UNCOUNTED:
             counts["GPT data", rust_words(one)] += 1
+        if one.why == OTHER_SUM:
+            counts["the sum", rust_words(one)] += 1
     counts["logs"] += len(logs)
     found = differences(kind + ", walked", bench, [(log, *walked(log, one)) for log, one in zip(logs, says)])
 
@@ -107,7 +110,7 @@ def report(counts, found):
         print("| " + " | ".join([kind, *(f"{row[x]:,}" for x in columns)]) + " |")
     there = {x: everything.pop(x) for x in [x for x in everything if isinstance(x, tuple)]}
     print("last lines of the Rust:", ", ".join(f"{x} {n:,}" for x, n in sorted(everything.items()) if x not in columns))
-    for req, what in (("Req 04", "the marker"), ("Req 05", "GPT data")):
+    for req, what in (("Req 04", "the marker"), ("Req 05", "GPT data"), ("Req 06", "the sum")):
         print(f"where {req} refuses {what} they were:", ", ".join(f"{x[1]} {n:,}" for x, n in sorted(there.items()) if x[0] == what))
     for _, text in sorted(found):
         print("difference in", text)

@@ -18,7 +18,7 @@ import maker
 import model
 from compare_logs import digests_of
 from maker import (ACTION, AGAIN, BLOB, END, GPT, IMAGE, MOST_PAIRS, SEPARATOR, SHA1, SHA256, SHA384, SHA512, TEXT, VARIABLE, WIDE_TEXT, WITH_TWO, cut,
-                   front_changed, marker, named, node, packed, pairs, real_logs, sha1, spec_id, u16, u32, u64, wide)
+                   every_second_mended, front_changed, marker, named, node, packed, pairs, real_logs, sha1, spec_id, u16, u32, u64, wide)
 from model import LOG_MOST, NO_ACTION
 
 image = functools.partial(maker.image, head=u64(0x1000) + u64(0x200) + u64(0))
@@ -108,7 +108,7 @@ PAIRS = {
     "300_pairs_and_the_last_doubled": marker(*pairs(300, {0: (SHA256, 32), 299: (SHA256, 32)})),
 }
 
-# What Req 05 takes and what it refuses, and the faults of entries.
+# What Req 05 and Req 06 take and what they refuse, and the faults of entries.
 GPTS = {
     "gpt_a_count_of_none": sha1(GPT, gpt()) + b"\1",
     "gpt_a_longer_header": sha1(GPT, gpt(size=101)) + sha1(SEPARATOR, u32(0)),
@@ -120,6 +120,7 @@ GPTS = {
     "gpt_a_count_that_wraps": sha1(GPT, gpt(count=(1 << 57) + 1, entries=[maker.entry("x")])),
     "gpt_an_odd_header": sha1(SEPARATOR, u32(0)) + sha1(GPT, gpt(size=93, entries=[maker.entry("x")])),
     "gpt_a_name_in_the_second": sha1(GPT, gpt(entries=[maker.entry("x"), maker.entry(u16(0xDC00)), maker.entry(u16(0xD800))])),
+    "gpt_another_sum": sha1(GPT, gpt(sum=0)),
 }
 
 # For the long run alone. What is at the limits is long, and the digests of a record are read again at each byte; a marker of more than sixteen pairs takes its time
@@ -154,7 +155,7 @@ def damaged(log, r):
 def gate_logs(folder):
     r, real = random.Random(7), real_logs(folder)
     logs = [*STARRED.values(), *UNSTARRED.values(), *OURS.values(), *PAIRS.values(), *GPTS.values()]
-    logs += [damaged(log, r) for log in logs if 60 < len(log) < 1000]
+    logs += every_second_mended(damaged(log, r) for log in logs if 60 < len(log) < 1000)
     return logs + [
         first_records(real["pkg-rust-uefi-0.37-test_event_log_v2.bin"], 3, 3),
         first_records(real["qemu-e-ovmf2022-direct-tpm12-tis.bin"], 4, 30),
@@ -167,7 +168,7 @@ def all_logs(folder, copies):
     r = random.Random(11)
     logs = [*STARRED.values(), *UNSTARRED.values(), *OURS.values(), *PAIRS.values(), *GPTS.values(), *LONG.values()]
     logs += [log[:LOG_MOST] for log in real_logs(folder).values()]
-    return logs + [damaged(log, r) for log in logs for _ in range(copies)]
+    return logs + every_second_mended(damaged(log, r) for log in logs for _ in range(copies))
 
 
 def main():

@@ -6,7 +6,6 @@ they are to leave the log and the state as they were. A log's entries go in from
 import collections
 
 import compare_logs
-import maker
 import model
 from maker import END, KNOWN_PAIRS, SHA1, SHA256, SHA384, SHA512, drive, entry, gpt, image, listed, node, pairs, sample, spec_id, u16, units, wide
 from model import AGILE_FORM, NO_ACTION, SHA1_FORM
@@ -129,7 +128,8 @@ def contents_refused(is_first):
     yield from ((0x80000003, image(nodes)), (0x80000004, image(nodes + drive(3))), (0x80000005, image(END + node(4, 4, units(0xD800)))),
                 (0x80000003, image(END + node(1, 1, b"", length=3))), (0x80000003, image(END * 3 + node(1, 1, b"", length=9))))
     yield from ((0x80000006, data) for data in (gpt(entries=[entry("x"), entry("y"), entry(units(0xDC00))]), gpt(220, count=b""),
-                                                gpt(entries=[entry("x")], count=(1 << 57) + 1)))
+                                                gpt(entries=[entry("x")], count=(1 << 57) + 1), gpt(size=101, sum=0xFFFFFFFF),
+                                                gpt(entries=[entry(units(0xDC00))], sum=0), gpt(99, sum=0)))
     yield 8, wide("a") + b"\0"
     if is_first:
         yield from ((NO_ACTION, data) for data in (b"", b"no Spec ID", spec_id()[:28], spec_id(signature=b"Spec ID Event02\0"), spec_id(uintn=1), spec_id(uintn=0), spec_id() + b"x",

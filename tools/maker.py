@@ -6,8 +6,9 @@ Every function writes what its arguments say, sound or not: a length, a count or
 import functools
 import os
 import struct
+import zlib
 
-from model import KNOWN_IDS, NO_ACTION, OWN_SIZES, PAIRS_MOST, RECORD_MOST
+from model import KNOWN_IDS, NO_ACTION, OWN_SIZES, PAIRS_MOST, RECORD_MOST, num
 
 SHA1, SHA256, SHA384, SHA512 = KNOWN_IDS
 KNOWN_PAIRS = tuple(OWN_SIZES.items())
@@ -94,9 +95,25 @@ def drive(form=2, signature_type=2, head=sample(36)):
     return node(4, 1, head + u8(form) + u8(signature_type))
 
 
-def header(size=92, entry_size=128, signature=b"EFI PART", revision=0x10000, fill=sample(92)):
-    """A GPT header: the fields that are looked at, in a header whose other fields are those of `fill`."""
-    return signature + u32(revision) + u32(size) + fill[16:84] + u32(entry_size) + fill[88:]
+def header_sum(data):
+    """The sum of the header that GPT data begin with: over its stated size, its own four bytes at 16 taken as zero."""
+    return zlib.crc32(data[:16] + bytes(4) + data[20:num(data, 12, 4)])
+
+
+def with_sum(data, sum):
+    """GPT data with this sum at 16."""
+    return data[:16] + u32(sum) + data[20:]
+
+
+def summed(data):
+    """GPT data with the right sum; as they are where they end before their header does, or it before its sum."""
+    return with_sum(data, header_sum(data)) if 20 <= num(data, 12, 4) <= len(data) else data
+
+
+def header(size=92, entry_size=128, signature=b"EFI PART", revision=0x10000, fill=sample(92), sum=None):
+    """A GPT header: the fields that are looked at, in a header whose other fields are those of `fill`. The sum is the right one where the size is not above 92."""
+    b = signature + u32(revision) + u32(size) + fill[16:84] + u32(entry_size) + fill[88:]
+    return summed(b) if sum is None else with_sum(b, sum)
 
 
 def entry(name, size=128, salt=0, head=None, rest=None):
@@ -105,13 +122,14 @@ def entry(name, size=128, salt=0, head=None, rest=None):
     return (head + wide(name)[:72].ljust(72, b"\0") + given(rest, sample(max(size - 128, 0))))[:size]
 
 
-def gpt(length=None, size=92, entry_size=128, entries=(), count=None, reserved=None, **fields):
+def gpt(length=None, size=92, entry_size=128, entries=(), count=None, reserved=None, sum=None, **fields):
     """A header, what is reserved up to its size, how many entries 8, the entries; with a length, cut there or filled up with zeros. A count may be any bytes, or
-    none."""
+    none. The sum is that of the header then."""
     reserved = given(reserved, sample(size - 92) if 92 < size <= RECORD_MOST else b"")
     count = given(count, len(entries))
     b = header(size, entry_size, **fields) + reserved + (count if isinstance(count, bytes) else u64(count)) + b"".join(entries)
-    return b if length is None else b[:length].ljust(length, b"\0")
+    b = b if length is None else b[:length].ljust(length, b"\0")
+    return summed(b) if sum is None else with_sum(b, sum)
 
 
 # ---------------------------------------------------------------- records
@@ -214,6 +232,25 @@ def edited(r, data):
         elif r.random() < .4:
             del b[at:]
     return bytes(b)
+
+
+def mended(log):
+    """The right sum in every GPT header of a log, or of a record's data, as far as its signature shows where it is."""
+    at = log.find(b"EFI PART")
+    while at >= 0:
+        log = log[:at] + summed(log[at:])
+        at = log.find(b"EFI PART", at + 8)
+    return log
+
+
+def half_mended(r, log):
+    """Every second one mended, drawn: what was damaged is then met by the tests behind the sum too."""
+    return mended(log) if r.random() < .5 else log
+
+
+def every_second_mended(logs):
+    """Damaged copies, every second one mended."""
+    return [mended(log) if i % 2 else log for i, log in enumerate(logs)]
 
 
 # ---------------------------------------------------------------- commands of the bench

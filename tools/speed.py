@@ -176,7 +176,7 @@ def read_to(driver, log):
 
 def records_and_sums(driver, log):
     """How many records the oracle's lines have, the sum of the numbers in them (the word `bios` counts 1), that of their serials, and how many bytes GPT headers
-    had reserved before Req 05 and have no more. A marker that Req 04 refuses ends the log, and so do GPT data that Req 05 refuses."""
+    had reserved before Req 05 and have no more. A marker that Req 04 refuses ends the log, and so do GPT data that Req 05 or Req 06 refuses."""
     lines = said(log, run([driver, "detail"], log)).records
     serials = sum(serials_of(lines))
     told = sum(int(n) for line in lines for n in re.findall(r"\d+", line)) + sum(line.endswith("bios") for line in lines)

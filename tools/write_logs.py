@@ -21,7 +21,7 @@ import compare_logs
 import entries
 import model
 from bench_model import weighed
-from maker import KNOWN_PAIRS, edited, listed, real_logs, sample, u8, u32
+from maker import KNOWN_PAIRS, edited, half_mended, listed, real_logs, sample, u8, u32
 from model import LOG_MOST
 from oracle import arguments, ask, driver_of, lines_text, program, run, said
 
@@ -105,7 +105,7 @@ def again_logs(folder):
     r = random.Random("again")
     real = [log for log in real_logs(folder).values() if len(log) <= REAL_MOST]
     small = [log for log in compare_logs.bases() if len(log) < 400]
-    return [b"", b"\1\2\3", *real, *(edited(r, log) for log in real), *r.sample(small, 60)]
+    return [b"", b"\1\2\3", *real, *(half_mended(r, edited(r, log)) for log in real), *r.sample(small, 60)]
 
 
 def gate(folder):
@@ -175,7 +175,7 @@ def drawn_log(r):
     for _ in range(r.randrange(12)):
         event, data = r.choice(entries.TYPES)
         if r.randrange(20) == 0:
-            data = edited(r, data)
+            data = half_mended(r, edited(r, data))
         some = [id for id in sizes if id in model.KNOWN_IDS or r.randrange(50) == 0]
         ids = r.choices(some, k=r.choice((0, 1, 1, 2, 3)) if some else 0) if is_agile else [4]
         digests = listed(*((id, r.randbytes(sizes[id] if is_agile else 20)) for id in ids))

@@ -49,7 +49,7 @@ pub fn is_sound(b: &[u8]) -> bool {
     if numbers::byte(b, KEPT) < 2 {
         return true;
     }
-    0 < number && number <= 18 && number != 15
+    0 < number && number <= 18
 }
 
 fn why_of(n: u8) -> Why {
@@ -68,6 +68,7 @@ fn why_of(n: u8) -> Why {
         12 => Why::NoSlot,
         13 => Why::TotalTooLong,
         14 => Why::OutOfRange,
+        15 => Why::WrongSum,
         16 => Why::WrongDigest,
         17 => Why::BufferTooShort,
         _ => Why::WrongForm,

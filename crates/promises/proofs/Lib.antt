@@ -4,6 +4,7 @@
 --   Pieces, OwnAnswers, Range     feeding by pieces (demand 3)
 --   Standing                      serials, counts and tallies (document 02, Req 03)
 --   Sizes                         the last-size rule no longer shows from a fresh start (document 02, Req 04)
+--   Bent                          one byte of a GPT header that is another is told (document 02, Req 06)
 --   Joined                        both: what a walk into slots says and what any run tells
 --   Writing, WritingByNumber      records and logs that are written (document 02, Req 01)
 --   OneOutcome                    each promise leaves one outcome
@@ -25,6 +26,7 @@ pub mod Readers
 pub mod Pieces
 pub mod Standing
 pub mod Sizes
+pub mod Bent
 pub mod Joined
 pub mod ExampleRun
 pub mod IdleFeeds
