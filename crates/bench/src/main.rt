@@ -1,5 +1,7 @@
 // Drives every entry point by commands on standard input, and writes a line for each answer.
 // README.md has the commands and the exact text of every line.
+#![tactic(auto)]
+
 mod feeds;
 mod writing;
 

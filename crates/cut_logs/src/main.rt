@@ -1,5 +1,7 @@
 // Feeds the logs on standard input to a walker, cut in many ways, and holds each answer to the walk
 // of the whole log. README.md has the ways and the layout of the input.
+#![tactic(auto)]
+
 mod run;
 mod ways;
 

@@ -1,5 +1,7 @@
 // The listing of an input that comes by parts: a call takes bytes of a part and writes the lines that
 // they settle to the front of a buffer that the caller lends. The definitions are in specs/Calls.antt.
+#![tactic(auto)]
+
 ghost use mathlib.Core.Path.{◌≡◌};
 ghost use mathlib.Core.List.{[]};
 ghost use Prim.Native.Nat.{◌-◌, ◌≤◌, min};

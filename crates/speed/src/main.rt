@@ -1,5 +1,7 @@
 // Reads the logs on standard input as often as it says, whole or by pieces, and compares nothing: for
 // measuring the time that it takes. README.md has the layout of the input and the lines.
+#![tactic(auto)]
+
 mod measure;
 mod sum;
 

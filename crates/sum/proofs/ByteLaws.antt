@@ -51,7 +51,7 @@ taken-below b r h k = shifted-below 8 (bit_xor b r) (xor_lt 32 b r (omega arith)
 pub sum_below : (r : ℕ) (s : List ℕ) → r < 2 ^ 32 → Bytes s → sum_from r s < 2 ^ 32
 unfolding sum_from
 sum_below r [] h t = h
-sum_below r (b ∷ s) h t = sum_below _ s (taken-below b r (t.below 0) h) (bytes-tail t)
+sum_below r (b ∷ s) h t = sum_below (shifted 8 (bit_xor b r)) s (taken-below b r (t.below 0) h) (bytes-tail t)
 
 -- whatever bytes follow, two registers stay apart
 pub sum-apart : (q r : ℕ) (s : List ℕ) → q < 2 ^ 32 → r < 2 ^ 32 → Bytes s → sum_from q s ≡ sum_from r s → q ≡ r
@@ -59,7 +59,7 @@ unfolding sum_from
 sum-apart q r [] h k t e = e
 sum-apart q r (b ∷ s) h k t e =
     let l = t.below 0 in
-    let same = sum-apart _ _ s (taken-below b q l h) (taken-below b r l k) (bytes-tail t) e in
+    let same = sum-apart (shifted 8 (bit_xor b q)) (shifted 8 (bit_xor b r)) s (taken-below b q l h) (taken-below b r l k) (bytes-tail t) e in
     xor-cancel b q r (shifted-apart 8 _ _ (xor_lt 32 b q (omega arith) h) (xor_lt 32 b r (omega arith) k) same)
 
 -- two texts of bytes that differ in one byte have different sums

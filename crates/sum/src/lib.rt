@@ -7,6 +7,8 @@
 //     sum::end(second)
 //
 // The table is made once and lent: a constant that is indexed is written out anew each time.
+#![tactic(auto)]
+
 mod remainders;
 
 ghost use Rattle.std.specs.Prelude.{◌≡◌};

@@ -1,5 +1,7 @@
 // Holds the sums of crate `sum`, part by part, to zlib's, which come on standard input. README.md
 // has the layout of the input.
+#![tactic(auto)]
+
 use harness::input::Input;
 use harness::{input, print};
 use numbers::Span;

@@ -1,5 +1,7 @@
 // Holds the answers of text::utf8 and text::wide to sums made with another program's answers,
 // which come on standard input. README.md says what is enumerated and in which order.
+#![tactic(auto)]
+
 mod print;
 mod sets;
 

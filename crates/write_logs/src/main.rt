@@ -1,5 +1,7 @@
 // Writes logs from entries and reads them back, and writes logs again that were read. README.md has
 // the layout of the input and the lines.
+#![tactic(auto)]
+
 mod hex;
 
 use harness::input;

@@ -1,5 +1,7 @@
 // Writes the entries on standard input as often as it says, and compares nothing: for measuring the
 // time that it takes. README.md has the layout of the input and the lines.
+#![tactic(auto)]
+
 mod measure;
 
 use harness::input::{Field, Given};
