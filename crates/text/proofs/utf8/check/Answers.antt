@@ -6,8 +6,8 @@ use Rattle.text.proofs.utf8.check.Goals as goal
 
 pub returns-then-well_formed : goal.returns-then-well_formed
 unfolding utf8_of
-returns-then-well_formed c = rw (← c.well-formed-2.ensures, c.if-well_formed.true) (ap Length c.trimmed.ensures)
+returns-then-well_formed c = rw (← c.well_formed-2.ensures, c.if-well_formed.true) (ap Length c.trimmed.ensures)
 
 pub returns-else-well_formed : goal.returns-else-well_formed
 unfolding utf8_of
-returns-else-well_formed c = rw (← c.well-formed-2.ensures, c.if-well_formed.false)
+returns-else-well_formed c = rw (← c.well_formed-2.ensures, c.if-well_formed.false)

@@ -17,7 +17,7 @@ pub returns-then-size-eq-WORD : goal.returns-then-size-eq-WORD
 returns-then-size-eq-WORD c e =
     let a = c.args in
     let none : bit_and (number_at 8 a.s.now a.at) 0x8080808080808080 ≡ 0 = rw (← c.le64.ensures) (eqb-true _ _ e) in
-    let known : Bytes a.s.now = bytes c.shared_slice_known-1.GIVEN in
+    let known : Bytes a.s.now = bytes c.type_inv.s in
     (omega arith, λ i l. word-plain a.s.now a.at known (omega arith) none i (omega arith))
 
 pub returns : goal.returns

@@ -14,10 +14,10 @@ returns-then-s-ne0 c = rw (ne_eqb (length c.args.s.now % 2) 0 c.if-s-ne0.true)
 pub returns-then-well_formed : goal.returns-then-well_formed
 unfolding wide_of
 returns-then-well_formed c =
-    rw (eq-eqb (length c.args.s.now % 2) 0 c.if-s-ne0.false, ← c.well-formed-2.ensures, c.if-well_formed.true)
+    rw (eq-eqb (length c.args.s.now % 2) 0 c.if-s-ne0.false, ← c.well_formed-2.ensures, c.if-well_formed.true)
     (ap Length c.trimmed.ensures)
 
 pub returns-else-well_formed : goal.returns-else-well_formed
 unfolding wide_of
 returns-else-well_formed c =
-    rw (eq-eqb (length c.args.s.now % 2) 0 c.if-s-ne0.false, ← c.well-formed-2.ensures, c.if-well_formed.false)
+    rw (eq-eqb (length c.args.s.now % 2) 0 c.if-s-ne0.false, ← c.well_formed-2.ensures, c.if-well_formed.false)
