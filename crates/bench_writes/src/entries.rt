@@ -22,7 +22,7 @@ const ROOM: usize = 9;
 const FIELDS: usize = 13;
 
 // What the command gave behind its numbers, and the state after it.
-#[derive(Drop)]
+#[derive(Clone, Copy)]
 pub struct Done {
     pub given: Given,
     pub state: Shape,

@@ -5,7 +5,7 @@ use record::Shape;
 use refusal::HOLD_FULL;
 use walker::Walker;
 
-#[derive(Drop)]
+#[derive(Clone, Copy)]
 pub struct State {
     // Where the next command starts.
     pub at: u64,

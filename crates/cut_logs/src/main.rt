@@ -17,7 +17,7 @@ const LOGS_MOST: usize = 4294967295;
 const SEED: u64 = 88172645463325252;
 
 // The logs so far.
-#[derive(Drop)]
+#[derive(Clone, Copy)]
 struct Totals {
     bytes: usize,
     records: usize,

@@ -9,7 +9,7 @@ use refusal::LOG_MOST;
 use standing::{REGISTERS, TALLIES};
 use walker::{Fed, Walker};
 
-#[derive(Drop)]
+#[derive(Clone, Copy)]
 pub struct Way {
     pub cutting: Cutting,
     pub form: Form,
@@ -21,7 +21,7 @@ pub struct Way {
 const CALLS_MOST: usize = 1000000;
 
 // How a way went: where it differs, `calls` is the call that does.
-#[derive(Drop)]
+#[derive(Clone, Copy)]
 pub struct Ran {
     pub agrees: bool,
     pub calls: usize,

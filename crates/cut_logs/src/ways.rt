@@ -18,7 +18,7 @@ const ALL: usize = 65536;
 const SOME: usize = 64;
 
 // The ways so far. Where one differs it is the last of them, and `at` is its call that does.
-#[derive(Drop)]
+#[derive(Clone, Copy)]
 pub struct Tally {
     pub agrees: bool,
     pub records: usize,

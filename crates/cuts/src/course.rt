@@ -8,7 +8,7 @@ use walk::Cursor;
 use walker::{Answer, Fed, Walker};
 
 // What the next call is, or how the way ended.
-#[derive(Drop)]
+#[derive(Clone, Copy)]
 pub enum Stage {
     Feed,
     Close,
@@ -19,7 +19,7 @@ pub enum Stage {
     Differs,
 }
 
-#[derive(Drop)]
+#[derive(Clone, Copy)]
 pub struct State {
     pub stage: Stage,
     pub walker: Walker,

@@ -1,6 +1,6 @@
 // How a log is cut into pieces, and a hold overwritten between them.
 
-#[derive(Drop)]
+#[derive(Clone, Copy)]
 pub enum Cutting {
     Whole,
     // One byte to a piece.
@@ -14,7 +14,7 @@ pub enum Cutting {
 }
 
 // A log that is being cut.
-#[derive(Drop)]
+#[derive(Clone, Copy)]
 pub struct Cutter {
     pub cutting: Cutting,
     // The number of pieces so far, and where the last of them ends.

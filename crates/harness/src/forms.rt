@@ -4,7 +4,7 @@ ghost use Rattle.walker.specs.Walker.{FeedSays, CloseSays};
 use walker::{Fed, Walker};
 
 // Which form of a call is made.
-#[derive(Drop)]
+#[derive(Clone, Copy)]
 pub enum Form {
     Value,
     // Where the walker lies.

@@ -2,7 +2,7 @@
 use refusal::LOG_MOST;
 
 // A letter where a command could start.
-#[derive(Drop)]
+#[derive(Clone, Copy)]
 pub enum Letter {
     // The input ends.
     Absent,
@@ -10,7 +10,7 @@ pub enum Letter {
 }
 
 // A number of four bytes.
-#[derive(Drop)]
+#[derive(Clone, Copy)]
 pub enum Field {
     Is(u32),
     // The input ends within it.
@@ -18,7 +18,7 @@ pub enum Field {
 }
 
 // What stands behind a command's fields.
-#[derive(Drop)]
+#[derive(Clone, Copy)]
 pub enum Given {
     // So many bytes, at the front of the buffer.
     Bytes(usize),
@@ -27,7 +27,7 @@ pub enum Given {
 }
 
 // What stands where a log could start.
-#[derive(Drop)]
+#[derive(Clone, Copy)]
 pub enum Input {
     // A head and a log of so many bytes, at the front of their buffers.
     Log(usize),

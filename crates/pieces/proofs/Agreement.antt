@@ -66,7 +66,7 @@ module _ {W Rec : Type 0} (full : ℕ) (held : W → ℕ) (Feeds : W → List �
       → (ended ≡ false → todo ≡ join ps) → InOrder full held Feeds Closes ps w last cs → Calls full held Feeds Closes ended todo w last cs
   order-calls t (passes r) = order-calls t r
   order-calls {ended} {todo} t (feeds_on {p = p} {ps = ps} {w = w} {hold = hold} {o = o} l f r) =
-      feeds (may ended t) l f (order-calls (rest ended t) r)
+      feeds (may ended t) l f (order-calls {ended = ended || stop? o.answer} {todo = drop o.count todo} (rest ended t) r)
     where
       may : (b : Bool) → (b ≡ false → todo ≡ p ++ join ps) → MayFeed b todo p
       may true t = tt
@@ -176,7 +176,7 @@ module _ {Shape Rec : Type 0} (judge : Judge Shape Rec) (full most : ℕ) (wrong
   open_order sh log short zero base rs w hold ps o d h k = absurd (omega arith)
   open_order sh log short (suc f) base rs w hold [] o d h k = (_, closes_all (record { size = h; same = refl }) refl)
   open_order sh log short (suc f) base rs w hold (p ∷ ps) o d h k =
-      let (cs, r) = go s.next (λ b rs qs. open_order sh log short f b rs x.walker x.hold qs) in (fed_call p hold x ∷ cs, feeds_on lent refl r)
+      let (cs, r) = go s.next (λ b rs qs. open_order sh log short f b rs x.walker x.hold qs) in (fed_call p hold x ∷ cs, feeds_on {cs = cs} lent refl r)
     where
       x : Outcome (Walker Shape) Rec
       x = feed_of judge full most wrong w hold p

@@ -93,12 +93,12 @@ module _ {Shape Rec : Type 0} (judge : Judge Shape Rec) (full most : ℕ) (wrong
       q ∙ feed-kept judge full most wrong w hold (k.ranged hold l.size) p e k.keeps
   shut-repeats e [] d ds k (closes {w = w} {hold = hold} m l q r) =
       q ∙ close-kept judge full most wrong w hold (k.ranged hold l.size) e k.keeps
-  shut-repeats e (c ∷ cs) d ds k (feeds {p = p} {w = w} {hold = hold} m l q r) =
+  shut-repeats {ended} {todo} e (c ∷ cs) d ds k (feeds {p = p} {w = w} {hold = hold} {o = o} m l q r) =
       let i = q ∙ feed-kept judge full most wrong w hold (k.ranged hold l.size) p e k.keeps in
-      shut-repeats e cs d ds (rw i k) r ∙ rw i
-  shut-repeats e (c ∷ cs) d ds k (closes {w = w} {hold = hold} m l q r) =
+      shut-repeats {ended = ended || stop? o.answer} {todo = drop o.count todo} e cs d ds (rw i k) r ∙ rw i
+  shut-repeats {ended} {todo} e (c ∷ cs) d ds k (closes {w = w} {hold = hold} {o = o} m l q r) =
       let i = q ∙ close-kept judge full most wrong w hold (k.ranged hold l.size) e k.keeps in
-      shut-repeats e cs d ds (rw i k) r ∙ rw i
+      shut-repeats {ended = ended || stop? o.answer} {todo = todo} e cs d ds (rw i k) r ∙ rw i
 
   module _ (able : Feedable judge full wrong) (short : length log ≤ most) where
     -- the first call of what is left of a run, and the rest of it
@@ -122,9 +122,10 @@ module _ {Shape Rec : Type 0} (judge : Judge Shape Rec) (full most : ℕ) (wrong
         → CallsOf judge full most wrong ended todo w last (bs ++ cs)
         → (over : Bool) × (left : List ℕ) × (v : Walker Shape) × (hold : List ℕ) × Reached (ds ++ bs) v hold over left × CallsOf judge full most wrong over left v hold cs
     reach {ended} {todo} {w} {last} ds [] cs s r = (ended, todo, w, last, rw (append-nil ds) s, r)
-    reach ds (b ∷ bs) cs s r =
+    reach {ended} {todo} ds (b ∷ bs) cs s r =
         let (c, r') = one-call s r in
-        let (over, left, v, hold, t, z) = reach (ds ++ (b ∷ [])) bs cs (called-reached c) r' in
+        let (over, left, v, hold, t, z) =
+        reach {ended = ended || stop? (outcome_of b).answer} {todo = drop (outcome_of b).count todo} (ds ++ (b ∷ [])) bs cs (called-reached c) r' in
         (over, left, v, hold, rw (append_assoc ds (b ∷ []) bs) at t, z)
 
     -- ---- from a fresh walker

@@ -271,6 +271,20 @@ again = fed_call (3 ∷ []) (255 ∷ 8 ∷ 8 ∷ 8 ∷ []) (still (done 1 1 (ref
 abbrev at-close : Call (Walker (Unit {0})) Item
 at-close = close_call (255 ∷ 9 ∷ 9 ∷ 9 ∷ []) (still (done 1 1 (refused_with BadValue 0)) (255 ∷ 9 ∷ 9 ∷ 9 ∷ []) (refused_with BadValue 0))
 
+-- what each of the three calls says, alone: all three at once are slow to check
+refusing-says : outcome_of refusing ≡ feed_of judge 4 12 wrong (fresh tt) (0 ∷ 0 ∷ 0 ∷ 0 ∷ []) (255 ∷ 1 ∷ [])
+unfolding feed_of taken judge
+refusing-says = refl
+
+at-close-says : outcome_of at-close ≡ close_of judge 4 12 wrong (done 1 1 (refused_with BadValue 0)) (255 ∷ 9 ∷ 9 ∷ 9 ∷ [])
+unfolding close_of
+at-close-says = refl
+
+again-says : outcome_of again ≡ feed_of judge 4 12 wrong (done 1 1 (refused_with BadValue 0)) (255 ∷ 8 ∷ 8 ∷ 8 ∷ []) (3 ∷ [])
+unfolding feed_of
+again-says = refl
+
 refused-again : RunOf judge 4 12 wrong (255 ∷ 1 ∷ []) (fresh tt) [] (refusing ∷ at-close ∷ again ∷ [])
-unfolding feed_of close_of taken judge
-refused-again = feeds {ended = false} ([], refl) (four refl) refl (closes tt (four refl) refl (feeds tt (four refl) refl rests))
+refused-again =
+    feeds {ended = false} ([], refl) (four refl) refusing-says
+    (closes {ended = true} tt (four refl) at-close-says (feeds {ended = true} tt (four refl) again-says rests))

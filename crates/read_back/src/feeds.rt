@@ -14,7 +14,7 @@ const SIZES: [usize; 5] = [1, 7, 100, 4096, 65536];
 const CALLS_MOST: usize = 70000;
 
 // How a log is fed: where the walker stands, and whether all was as it should be.
-#[derive(Drop)]
+#[derive(Clone, Copy)]
 struct Feeding {
     walker: Walker,
     taken: usize,
@@ -25,7 +25,7 @@ struct Feeding {
 }
 
 // The feeds of a log in all sizes.
-#[derive(Drop)]
+#[derive(Clone, Copy)]
 pub struct Feeds {
     pub calls: usize,
     pub differ: usize,

@@ -5,7 +5,7 @@ use made_logs::again::Again;
 use made_logs::made::Made;
 use numbers::Span;
 
-#[derive(Drop)]
+#[derive(Clone, Copy)]
 pub struct Totals {
     pub commands: usize,
     pub entries: usize,

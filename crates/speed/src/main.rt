@@ -15,7 +15,7 @@ use refusal::{HOLD_FULL, LOG_MOST};
 const TASKS_MOST: usize = 4294967295;
 
 // A log to be read `times` times over: by pieces of a size, or whole where that is 0.
-#[derive(Drop)]
+#[derive(Clone, Copy)]
 struct Task {
     size: usize,
     times: usize,

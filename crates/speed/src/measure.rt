@@ -9,7 +9,7 @@ use walker::{Answer, Kept, Walker};
 const CALLS_MOST: usize = 1000000;
 
 // The calls and the records so far, and the sum of the records' numbers.
-#[derive(Drop)]
+#[derive(Clone, Copy)]
 pub struct Tally {
     pub calls: usize,
     pub records: usize,

@@ -11,7 +11,7 @@ use refusal::LOG_MOST;
 const PARTS_MOST: usize = 4294967295;
 
 // The parts so far.
-#[derive(Drop)]
+#[derive(Clone, Copy)]
 struct Totals {
     // After the last of them.
     register: u32,

@@ -9,7 +9,7 @@ pub mod wide;
 use refusal::Why;
 
 // What a check says of a text.
-#[derive(Drop)]
+#[derive(Clone, Copy)]
 pub enum Text {
     // How many bytes it has without its trailing zeros.
     Length(usize),

@@ -13,7 +13,7 @@ use sets::Set;
 use text::Text;
 
 // What came of a family.
-#[derive(Drop)]
+#[derive(Clone, Copy)]
 enum Tally {
     // Each block had its sum: how many differ, and the number of the first that does.
     Read { differ: u64, first: u64 },

@@ -1,7 +1,7 @@
 // The sets of elements that sequences are made of, and a sequence by its number.
 ghost use Rattle.std.specs.Prelude.{◌<◌, ◌≤◌};
 
-#[derive(Drop)]
+#[derive(Clone, Copy)]
 pub enum Set {
     // Every byte.
     Bytes,

@@ -8,7 +8,7 @@ use writes::entries::{Entry, Found};
 const ENTRIES_MOST: usize = 65536;
 
 // A log that is being written.
-#[derive(Drop)]
+#[derive(Clone, Copy)]
 pub struct Tally {
     // Where the next entry stands in the block, and where its record will lie.
     at: usize,
