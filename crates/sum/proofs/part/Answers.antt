@@ -1,5 +1,4 @@
 -- `sum::part`: what is left, from the register now, gives what the whole part gives. Assumes nothing.
-use Prim.Native.Nat.{◌-◌}
 use mathlib.Core.Path.{refl, sym, ◌∙◌}
 use native.Mathlib.Omega.{arith}
 use Rattle.sum.proofs.SumLaws.{table-next, table-end}

@@ -1,5 +1,4 @@
 -- `text::utf8::past_blocks`: what is left is as well formed as what was left at the start. Assumes nothing.
-use Prim.Native.Nat.{◌-◌}
 use mathlib.Core.Path.{refl, ◌∙◌}
 use native.Mathlib.Omega.{arith}
 use Rattle.text.proofs.PlainLaws.{plain-run}

@@ -1,6 +1,5 @@
 -- `text::utf8::well_formed_from`: what is left from `at` on is as well formed as what is left at the start; each turn passes a
 -- sequence, and after a plain byte the rest of its run. Assumes nothing.
-use Prim.Native.Nat.{◌-◌}
 use mathlib.Core.Path.{refl, sym, ◌∙◌}
 use native.Mathlib.Omega.{arith}
 use Rattle.text.specs.Unicode.{utf8_rows}

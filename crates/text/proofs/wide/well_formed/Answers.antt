@@ -1,6 +1,6 @@
 -- `text::wide::well_formed`: the units from `at` on are well formed exactly where all are; each turn passes a sequence.
 -- Assumes nothing.
-use Prim.Native.Nat.{◌+◌, ◌-◌, ◌*◌, ◌/◌}
+use Prim.Native.Nat.{◌+◌, ◌*◌, ◌/◌}
 use mathlib.Core.Path.{◌≡◌, refl, sym, ap, ◌∙◌}
 use native.Mathlib.Omega.{arith}
 use Rattle.text.proofs.TextLaws.{length-units, units-from}
