@@ -1,0 +1,10 @@
+-- `harness::replies::sum_of` is safe and ends. Nothing has to hold from turn to turn; the measure is the bytes left.
+-- Assumes nothing.
+use Rattle.std.proofs.Common.{◌-◌, length}
+use Rattle.harness.proofs.replies.sum_of.Given as goal
+
+abbrev pub invariant-loop-i : goal.invariant-loop-i
+invariant-loop-i l = Unit {0}
+
+abbrev pub decreases-loop-i : goal.decreases-loop-i
+decreases-loop-i l = length l.hold - l.i
