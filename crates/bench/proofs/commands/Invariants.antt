@@ -5,7 +5,7 @@ use lib.ListN.{length}
 use Rattle.bench.proofs.commands.Given as goal
 
 abbrev pub invariant-loop-left : goal.invariant-loop-left
-invariant-loop-left l = (length «data» ≡ length l.initial.data) × (length l.hold ≡ length l.initial.hold)
+invariant-loop-left l = (length l.data ≡ length l.initial.data) × (length l.hold ≡ length l.initial.hold)
 
 abbrev pub decreases-loop-left : goal.decreases-loop-left
 decreases-loop-left l = l.left
