@@ -4,7 +4,7 @@
     tools/compare.py [FOLDER] [--bench COMMAND] [--list COMMAND] [--oracle DRIVER] [--only KIND]
 
 FOLDER has the Rust source (docs/src) and logs of real firmware (logs); without it ../shared. COMMAND is what starts our programs `bench` and
-`list`: without it they are built, by `rt check` on x86-64 and by tools/native.sh on another processor. DRIVER is a built oracle; without it
+`list`: without it they are built, by tools/native.sh. DRIVER is a built oracle; without it
 oracle/build.sh is run, unless target/oracle/driver is there. To be run from the top of the repository.
 
 Every log of tools/compare_logs.py is walked by the bench over 64 slots and by the oracle, and the lines of all records and the last line must

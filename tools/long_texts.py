@@ -3,7 +3,7 @@
 
     tools/long_texts.py [--bench COMMAND]
 
-COMMAND is what starts our program `bench`: without it it is built, by `rt check` on x86-64 and by tools/native.sh on another processor. To be
+COMMAND is what starts our program `bench`: without it it is built, by tools/native.sh. To be
 run from the top of the repository.
 
 The check passes bytes below 0x80 sixty-four, eight and one at a time. So of each length up to 200 there is a text of letters alone, one with zeros

@@ -7,7 +7,7 @@
     tools/speed.py --gate                              writes crates/speed/stdin, and crates/write_speed/stdin and stdout
 
 FOLDER has the Rust source (docs/src) and logs of real firmware (logs); without it ../shared. COMMAND is what starts our program `speed` or `write_speed`:
-without it it is built, by `rt check` on x86-64 and by tools/native.sh on another processor. DRIVER is a built oracle; without it
+without it it is built, by tools/native.sh. DRIVER is a built oracle; without it
 oracle/build.sh is run, unless target/oracle/driver is there. To be run from the top of the repository.
 
 A time is the processor time of a process that reads one log so many times over, less that of one that reads it no times, divided by the

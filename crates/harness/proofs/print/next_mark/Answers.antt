@@ -1,5 +1,5 @@
 -- `harness::print::next_mark`: the invariant: no mark was passed. The measure is the bytes left. Assumes nothing.
-use Rattle.std.proofs.Common.{◌-◌, arith, rules, below_more}
+use Rattle.std.proofs.Common.{arith, rules, below_more}
 use Rattle.harness.proofs.print.next_mark.Goals as goal
 
 pub loop-at-init : goal.loop-at-init
