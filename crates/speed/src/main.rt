@@ -3,7 +3,7 @@
 #![tactic(auto)]
 
 mod measure;
-mod sum;
+mod sums;
 
 use harness::input::Input;
 use harness::{input, print};

@@ -1,5 +1,5 @@
 // Reads a log whole or by pieces, as often as is asked for, and adds up what its records say.
-use crate::sum;
+use crate::sums;
 use numbers::Span;
 use record::{Slot, Turn};
 use standing::{REGISTERS, TALLIES};
@@ -32,7 +32,7 @@ fn given(t: Tally, slot: Slot) -> Tally {
     Tally {
         calls: more(t.calls),
         records: more(t.records),
-        sum: sum::add(t.sum, sum::slot(slot)),
+        sum: sums::add(t.sum, sums::slot(slot)),
     }
 }
 

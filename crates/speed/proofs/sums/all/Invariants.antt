@@ -1,8 +1,8 @@
--- `speed::sum::all` is safe and ends. Nothing has to hold from turn to turn; the measure is the numbers left.
+-- `speed::sums::all` is safe and ends. Nothing has to hold from turn to turn; the measure is the numbers left.
 -- Assumes nothing.
 use Rattle.std.proofs.Common.{◌-◌}
 use Rattle.fields.specs.Fields.{fields_most}
-use Rattle.speed.proofs.sum.all.Given as goal
+use Rattle.speed.proofs.sums.all.Given as goal
 
 abbrev pub invariant-loop-i : goal.invariant-loop-i
 invariant-loop-i l = Unit {0}
