@@ -1,5 +1,5 @@
 #!/bin/sh
-# Puts a program where the tools that measure look for it, once `rt run PROGRAM` or `rt ci` has built it.
+# Proves and builds a program, and puts it where the tools that measure look for it.
 #
 #   tools/native.sh PROGRAM       target/native/PROGRAM
 #
@@ -9,6 +9,6 @@ set -eu
 program=${1:?usage: tools/native.sh PROGRAM}
 cd "$(dirname "$0")/.."
 [ "$(uname -m)" = x86_64 ] || { echo "native.sh: programs are for x86-64" >&2; exit 1; }
-[ -x "crates/$program/out/$program" ] || rt run "$program" > /dev/null
+rt run "$program" > /dev/null
 mkdir -p target/native
 cp "crates/$program/out/$program" "target/native/$program"

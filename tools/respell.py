@@ -17,6 +17,8 @@ FIRST = [
     (r"(?<![\w'-])calls_seen(?![\w'-])", "calls_seen_lem", ("pieces", "promises")),
     (r"(?<![\w'-])entry_in(?![\w'-])", "entry_in_lem", ("write",)),
     (r"(?<![\w'-])in_order(?![\w'-])", "in_order_lem", ("refusal",)),
+    (r"(?<![\w'-])out_of_range(?![\w'-])", "out-of-range", ("pieces",)),
+    (r"(?<![\w'-])form_in(?![\w'-])", "form-in", ("contents",)),
     (r"(?<![\w'-])(?:get_d_|getD-)(?=part|units|pairs)", "get_or-", None),
 ]
 

@@ -90,13 +90,13 @@ abbrev tested : Bool → ℕ → ℕ → List ℕ → Outcome (Walker (Unit {0})
 tested bad held total hold = feed_of judge 4 12 (λ t sh. bad) (walker held total none) hold []
 
 -- 14 at 0: a hold of 3 bytes, 5 held, a total of 13, 3 held of a total of 2, a wrong shape
-out_of_range : (tested false 0 0 (0 ∷ 0 ∷ 0 ∷ []) ≡ stays (walker 0 0 none) (0 ∷ 0 ∷ 0 ∷ []) (refused_with OutOfRange 0))
+out-of-range : (tested false 0 0 (0 ∷ 0 ∷ 0 ∷ []) ≡ stays (walker 0 0 none) (0 ∷ 0 ∷ 0 ∷ []) (refused_with OutOfRange 0))
     × (tested false 5 12 (3 ∷ 0 ∷ 0 ∷ 0 ∷ 0 ∷ []) ≡ stays (walker 5 12 none) (3 ∷ 0 ∷ 0 ∷ 0 ∷ 0 ∷ []) (refused_with OutOfRange 0))
     × (tested false 0 13 (0 ∷ 0 ∷ 0 ∷ 0 ∷ []) ≡ stays (walker 0 13 none) (0 ∷ 0 ∷ 0 ∷ 0 ∷ []) (refused_with OutOfRange 0))
     × (tested false 3 2 (0 ∷ 0 ∷ 0 ∷ 0 ∷ []) ≡ stays (walker 3 2 none) (0 ∷ 0 ∷ 0 ∷ 0 ∷ []) (refused_with OutOfRange 0))
     × (tested true 0 0 (0 ∷ 0 ∷ 0 ∷ 0 ∷ []) ≡ stays (walker 0 0 none) (0 ∷ 0 ∷ 0 ∷ 0 ∷ []) (refused_with OutOfRange 0))
 unfolding feed_of
-out_of_range = (refl, refl, refl, refl, refl)
+out-of-range = (refl, refl, refl, refl, refl)
 
 -- and none of these: 4 held of a hold of 4 bytes and of a total of 12, and of a total of 4
 in-range : ((tested false 4 12 (3 ∷ 0 ∷ 0 ∷ 0 ∷ [])).answer ≡ gives (record { at = 8; bytes = 0 ∷ 0 ∷ 0 ∷ [] }))
