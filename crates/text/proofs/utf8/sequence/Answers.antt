@@ -1,5 +1,5 @@
 -- `text::utf8::sequence`: at each class of a lead the rows of classes leave one row, and elsewhere none. Assumes nothing.
-use mathlib.Core.Path.{sym, ◌∙◌}
+use Rattle.std.proofs.Common.{rules, sym, ◌∙◌}
 use Rattle.numbers.proofs.NumberLaws.{bytes}
 use Rattle.text.proofs.ClassLaws.{step-lead, step-none}
 use Prim.Native.Nat.{◌+◌}
@@ -65,4 +65,4 @@ pub returns-in_default : goal.returns-in_default
 returns-in_default c =
     let a = c.args in
     let e = step-lead a.s.now a.at c.class_of-lead.result (bytes c.type_inv.s) c.requires.1 c.class_of-lead.ensures in
-    sym (step-none c.class_of-lead.result (classes_from a.s.now (a.at + 1)) c.in_default.in_default-own.rest) ∙ e
+    sym (step-none c.class_of-lead.result (classes_from a.s.now (a.at + 1)) (search rules)) ∙ e
