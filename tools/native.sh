@@ -9,6 +9,6 @@ set -eu
 program=${1:?usage: tools/native.sh PROGRAM}
 cd "$(dirname "$0")/.."
 [ "$(uname -m)" = x86_64 ] || { echo "native.sh: programs are for x86-64" >&2; exit 1; }
-rt run "$program" < /dev/null > /dev/null
+(cd "crates/$program" && rt run < /dev/null > /dev/null)
 mkdir -p target/native
 cp "crates/$program/out/$program" "target/native/$program"
