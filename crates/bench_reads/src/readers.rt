@@ -1,55 +1,47 @@
-// The commands P, G, U and X: a node of a path, an entry of a GPT, the two checks of text.
+// The commands P, G, U and X: a node of a path, an entry of a GPT, the two checks of text. Each gives
+// how many bytes it had behind its fields, or nothing where it is bad.
 use crate::items;
-use harness::input::{Field, Given};
+use harness::print::RefusalWords;
 use harness::{input, print};
-use numbers::Span;
-use refusal::Refusal;
-use text::Text;
+use refusal::{Refusal, Why};
 
-pub fn node(data: &mut [u8]) -> Given {
-    let Field::Is(index) = input::next_field() else {
-        return Given::Bad;
-    };
-    let Given::Bytes(n) = input::counted(data) else {
-        return Given::Bad;
-    };
-    let path = numbers::part(data, Span { at: 0, len: n });
-    items::node_line(path::read(path, index as usize));
-    Given::Bytes(n)
+fn indexed<L: Fn(&[u8], usize)>(data: &mut [u8], line: L) -> Option<usize>
+    requires { L.IsAlwaysCallable line }
+{
+    let index = input::next_field()?;
+    let s = input::counted(data)?;
+    line(s, index as usize);
+    Some(s.len())
 }
 
-pub fn entry(data: &mut [u8]) -> Given {
-    let Field::Is(index) = input::next_field() else {
-        return Given::Bad;
-    };
-    let Given::Bytes(n) = input::counted(data) else {
-        return Given::Bad;
-    };
-    let table = numbers::part(data, Span { at: 0, len: n });
-    items::entry_line(gpt::read(table, index as usize));
-    Given::Bytes(n)
+pub fn node(data: &mut [u8]) -> Option<usize> {
+    indexed(data, |s, index| items::node_line(path::read(s, index)))
+}
+
+pub fn entry(data: &mut [u8]) -> Option<usize> {
+    indexed(data, |s, index| items::entry_line(gpt::read(s, index)))
 }
 
 // A text starts where its bytes do.
-fn text_line(t: Text) {
+fn text_line(t: Result<usize, Why>) {
     match t {
-        Text::Length(n) => print::line(b"text 0+#\n", &[n as u64]),
-        Text::Refused(why) => print::refused(Refusal { why, at: 0 }),
+        Ok(n) => print::line(format_args!("text 0+{n}")),
+        Err(why) => print::line(RefusalWords(Refusal { why, at: 0 })),
     }
 }
 
-// A text of two-byte units, or UTF-8.
-fn text_of(s: &[u8], wide: bool) -> Text {
-    if wide {
-        return text::wide::check(s);
-    }
-    text::utf8::check(s)
+fn checked_text<C: Fn(&[u8]) -> Result<usize, Why>>(data: &mut [u8], check: C) -> Option<usize>
+    requires { C.IsAlwaysCallable check }
+{
+    let s = input::counted(data)?;
+    text_line(check(s));
+    Some(s.len())
 }
 
-pub fn checked_text(data: &mut [u8], wide: bool) -> Given {
-    let Given::Bytes(n) = input::counted(data) else {
-        return Given::Bad;
-    };
-    text_line(text_of(numbers::part(data, Span { at: 0, len: n }), wide));
-    Given::Bytes(n)
+pub fn utf8_text(data: &mut [u8]) -> Option<usize> {
+    checked_text(data, text::utf8::check)
+}
+
+pub fn wide_text(data: &mut [u8]) -> Option<usize> {
+    checked_text(data, text::wide::check)
 }

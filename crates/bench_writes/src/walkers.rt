@@ -1,9 +1,7 @@
 // The command W: a walker made up of numbers.
 use crate::states;
-use numbers::Span;
 use refusal::{Ending, Refusal, Why};
-use standing::{REGISTERS, TALLIES};
-use walker::{Kept, Walker};
+use walker::Walker;
 
 // Where the fields stand, and how many bytes they have in all.
 const TOTAL: usize = 8;
@@ -24,89 +22,62 @@ const SECOND: usize = 579;
 
 pub const FIELDS: usize = 587;
 
-// What comes next, and the pairs.
-fn shape_part(b: &[u8]) -> &[u8] {
-    numbers::part(
-        b,
-        Span {
-            at: SHAPE,
-            len: states::FIELDS,
-        },
-    )
-}
-
-// Whether kind, kept and number are such as a walker has. The number is looked at only where a
-// refusal is kept.
-pub fn is_sound(b: &[u8]) -> bool {
-    let number = numbers::byte(b, NUMBER);
-    if !states::is_sound(shape_part(b)) || 2 < numbers::byte(b, KEPT) {
-        return false;
-    }
-    if numbers::byte(b, KEPT) < 2 {
-        return true;
-    }
-    0 < number && number <= 18
-}
-
-fn why_of(n: u8) -> Why {
+fn why_of(n: u8) -> Option<Why> {
     match n {
-        1 => Why::LogTooLong,
-        2 => Why::FieldCut,
-        3 => Why::FieldTooFar,
-        4 => Why::AlgorithmUnknown,
-        5 => Why::TooShort,
-        6 => Why::BadSignature,
-        7 => Why::BadVersion,
-        8 => Why::Unaligned,
-        9 => Why::BadValue,
-        10 => Why::BadText,
-        11 => Why::TooManyPairs,
-        12 => Why::NoSlot,
-        13 => Why::TotalTooLong,
-        14 => Why::OutOfRange,
-        15 => Why::WrongSum,
-        16 => Why::WrongDigest,
-        17 => Why::BufferTooShort,
-        _ => Why::WrongForm,
+        1 => Some(Why::LogTooLong),
+        2 => Some(Why::FieldCut),
+        3 => Some(Why::FieldTooFar),
+        4 => Some(Why::AlgorithmUnknown),
+        5 => Some(Why::TooShort),
+        6 => Some(Why::BadSignature),
+        7 => Some(Why::BadVersion),
+        8 => Some(Why::Unaligned),
+        9 => Some(Why::BadValue),
+        10 => Some(Why::BadText),
+        11 => Some(Why::TooManyPairs),
+        12 => Some(Why::NoSlot),
+        13 => Some(Why::TotalTooLong),
+        14 => Some(Why::OutOfRange),
+        15 => Some(Why::WrongSum),
+        16 => Some(Why::WrongDigest),
+        17 => Some(Why::BufferTooShort),
+        18 => Some(Why::WrongForm),
+        _ => None,
     }
 }
 
-fn kept_of(kept: u8, number: u8, a: usize, b: usize) -> Kept {
-    match kept {
-        0 => Kept::Open,
-        1 => Kept::Stopped(Ending::End { at: a, tail: b }),
-        _ => Kept::Stopped(Ending::Refused(Refusal {
-            why: why_of(number),
-            at: a,
-        })),
-    }
-}
-
-// Numbers of four bytes, from `at` on.
-fn read_all(list: &mut [u32], b: &[u8], at: usize) {
-    let mut from = at;
-    let mut i: usize = 0;
-    while i < list.len() {
-        list[i] = numbers::le32(b, from);
-        from = std::num::wrapping_add_usize(from, 4);
-        i += 1;
-    }
-}
-
-pub fn walker_of(b: &[u8]) -> Walker {
-    let mut counts = [0u32; REGISTERS];
-    let mut tallies = [0u32; TALLIES];
-    read_all(&mut counts, b, COUNTS);
-    read_all(&mut tallies, b, TALLIED);
-    let a = numbers::le64(b, FIRST) as usize;
+// The answer that is kept, if there is one. The number is looked at only where a refusal is kept.
+fn kept_of(b: &[u8; FIELDS]) -> Option<Option<Ending>> {
+    let at = numbers::le64(b, FIRST) as usize;
     let tail = numbers::le64(b, SECOND) as usize;
-    let shape = states::state_of(shape_part(b));
-    Walker {
+    match b[KEPT] {
+        0 => Some(None),
+        1 => Some(Some(Ending::End { at, tail })),
+        2 => {
+            let why = why_of(b[NUMBER])?;
+            Some(Some(Ending::Refused(Refusal { why, at })))
+        }
+        _ => None,
+    }
+}
+
+// Numbers of four bytes, one after the other.
+fn list_of<const N: usize>(b: &[u8]) -> [u32; N] {
+    let mut list = [0u32; N];
+    for (n, field) in list.iter_mut().zip(b.chunks_exact(4)) {
+        *n = numbers::le32(field, 0);
+    }
+    list
+}
+
+// None where kind, kept and number are not such as a walker has.
+pub fn walker_of(b: &[u8; FIELDS]) -> Option<Walker> {
+    Some(Walker {
         held: numbers::le64(b, 0) as usize,
         total: numbers::le64(b, TOTAL) as usize,
-        shape,
-        kept: kept_of(numbers::byte(b, KEPT), numbers::byte(b, NUMBER), a, tail),
-        counts,
-        tallies,
-    }
+        shape: states::state_of(&b[SHAPE..COUNTS])?,
+        kept: kept_of(b)?,
+        counts: list_of(&b[COUNTS..TALLIED]),
+        tallies: list_of(&b[TALLIED..KEPT]),
+    })
 }

@@ -5,14 +5,12 @@
 mod run;
 mod ways;
 
-use harness::input::Input;
 use harness::{input, print};
-use numbers::Span;
 use refusal::{HOLD_FULL, LOG_MOST};
-use ways::Tally;
+use ways::{Difference, Ways};
 
 // No input has so many logs.
-const LOGS_MOST: usize = 4294967295;
+const LOGS_MOST: u64 = 4294967295;
 
 const SEED: u64 = 88172645463325252;
 
@@ -25,87 +23,41 @@ struct Totals {
     calls: usize,
     differ: usize,
     random: u64,
-    // There may be a further log.
-    open: bool,
 }
 
-fn verdict(t: Tally) {
-    if t.agrees {
-        return print::say(b" agree\n");
-    }
-    print::line(b" differ at way # call #\n", &[t.ways as u64, t.at as u64]);
-}
-
-fn line(index: usize, bytes: usize, t: Tally) {
-    print::line(
-        b"log # bytes # records # ways # calls #",
-        &[
-            index as u64,
-            bytes as u64,
-            t.records as u64,
-            t.ways as u64,
-            t.calls as u64,
-        ],
-    );
-    verdict(t);
-}
-
-fn last_line(logs: usize, t: Totals) {
-    print::line(
-        b"logs # bytes # records # ways # calls # differ #\n",
-        &[
-            logs as u64,
-            t.bytes as u64,
-            t.records as u64,
-            t.ways as u64,
-            t.calls as u64,
-            t.differ as u64,
-        ],
-    );
-}
-
-fn add(a: usize, b: usize) -> usize {
-    std::num::wrapping_add_usize(a, b)
-}
-
-fn added(t: Totals, bytes: usize, of: Tally) -> Totals {
-    let differ = if of.agrees { 0 } else { 1 };
-    Totals {
-        bytes: add(t.bytes, bytes),
-        records: add(t.records, of.records),
-        ways: add(t.ways, of.ways),
-        calls: add(t.calls, of.calls),
-        differ: add(t.differ, differ),
-        random: of.random,
-        open: true,
+fn line(index: u64, bytes: usize, of: &Ways, outcome: Result<(), Difference>) {
+    print::say(format_args!(
+        "log {index} bytes {bytes} records {} ways {} calls {} ",
+        of.records, of.ways, of.calls
+    ));
+    match outcome {
+        Ok(()) => print::line("agree"),
+        Err(d) => print::line(format_args!("differ at way {} call {}", d.way, d.call)),
     }
 }
 
-// One log, in all the ways.
-fn compare(log: &[u8], hold: &mut [u8], index: usize, t: Totals) -> Totals {
-    let of = ways::all(log, hold, t.random);
-    line(index, log.len(), of);
-    added(t, log.len(), of)
+fn last_line(logs: u64, t: Totals) {
+    print::line(format_args!(
+        "logs {logs} bytes {} records {} ways {} calls {} differ {}",
+        t.bytes, t.records, t.ways, t.calls, t.differ
+    ));
 }
 
-fn stopped(t: Totals) -> Totals {
-    let mut last = t;
-    last.open = false;
-    last
-}
-
-// The next log, or what there is to say where none starts.
-fn next(buf: &mut [u8], hold: &mut [u8], index: usize, t: Totals) -> Totals {
-    match input::next_log(buf) {
-        Input::Log(len) => {
-            let log = numbers::part(buf, Span { at: 0, len });
-            return compare(log, hold, index, t);
+impl Totals {
+    // One log, in all the ways.
+    fn compare(&mut self, index: u64, log: &[u8], hold: &mut [u8]) {
+        let mut of = Ways::new(log, hold, self.random);
+        let outcome = of.all();
+        line(index, log.len(), &of, outcome);
+        self.bytes = self.bytes.wrapping_add(log.len());
+        self.records = self.records.wrapping_add(of.records);
+        self.ways = self.ways.wrapping_add(of.ways);
+        self.calls = self.calls.wrapping_add(of.calls);
+        self.random = of.random;
+        if outcome.is_err() {
+            self.differ = self.differ.wrapping_add(1);
         }
-        Input::End => last_line(index, t),
-        Input::Short => print::line(b"standard input ends inside log #\n", &[index as u64]),
-        Input::Long => print::line(b"over 65536 bytes: log #\n", &[index as u64]),
     }
-    stopped(t)
 }
 
 fn logs(buf: &mut [u8], hold: &mut [u8]) {
@@ -116,12 +68,13 @@ fn logs(buf: &mut [u8], hold: &mut [u8]) {
         calls: 0,
         differ: 0,
         random: SEED,
-        open: true,
     };
-    let mut i: usize = 0;
-    while i < LOGS_MOST && t.open {
-        t = next(buf, hold, i, t);
-        i += 1;
+    for index in 0..LOGS_MOST {
+        match input::next_log(buf) {
+            Ok(Some(log)) => t.compare(index, log, hold),
+            Ok(None) => return last_line(index, t),
+            Err(why) => return print::broken(why, "log", index),
+        }
     }
 }
 

@@ -1,8 +1,8 @@
 // All the ways in which a log is fed, by its length.
-use crate::run;
-use crate::run::Way;
+use crate::run::Run;
+use cuts::course::Course;
 use cuts::cut::Cutting;
-use harness::forms::Form;
+use harness::forms::{Form, Place, Value};
 
 // The longest log that is cut at every pair of places, and the longest that is cut at every place.
 const PAIRS_MOST: usize = 60;
@@ -17,118 +17,99 @@ const ALL: usize = 65536;
 
 const SOME: usize = 64;
 
-// The ways so far. Where one differs it is the last of them, and `at` is its call that does.
+// The first call that differs from the whole walk.
 #[derive(Clone, Copy)]
-pub struct Tally {
-    pub agrees: bool,
+pub struct Difference {
+    pub way: usize,
+    pub call: usize,
+}
+
+// A log and the ways so far: the records of the last one, and the calls of all.
+#[derive(Drop)]
+pub struct Ways<'a, 'h> {
+    log: &'a [u8],
+    hold: &'h mut [u8],
     pub records: usize,
     pub ways: usize,
     pub calls: usize,
-    pub at: usize,
     pub random: u64,
 }
 
-fn one(log: &[u8], hold: &mut [u8], way: Way, t: Tally) -> Tally {
-    if !t.agrees {
-        return t;
-    }
-    let r = run::run(log, hold, way, t.random);
-    Tally {
-        agrees: r.agrees,
-        records: r.records,
-        ways: std::num::wrapping_add_usize(t.ways, 1),
-        calls: std::num::wrapping_add_usize(t.calls, r.calls),
-        at: r.calls,
-        random: r.random,
-    }
-}
-
-// By value, then through the forms in place, with the same cuts.
-fn both(log: &[u8], hold: &mut [u8], cutting: Cutting, scribbled: usize, t: Tally) -> Tally {
-    let by_value = Way {
-        cutting,
-        form: Form::Value,
-        scribbled: 0,
-    };
-    let in_place = Way {
-        cutting,
-        form: Form::Place,
-        scribbled,
-    };
-    let mut first = one(log, hold, by_value, t);
-    first.random = t.random;
-    one(log, hold, in_place, first)
-}
-
-// Every second cut from the first on.
-fn second_cuts(log: &[u8], hold: &mut [u8], first: usize, t: Tally) -> Tally {
-    let mut u = t;
-    let mut second = first;
-    while second <= PAIRS_MOST {
-        if log.len() < second {
-            return u;
+impl<'a, 'h> Ways<'a, 'h> {
+    pub fn new(log: &'a [u8], hold: &'h mut [u8], random: u64) -> Ways<'a, 'h> {
+        Ways {
+            log,
+            hold,
+            records: 0,
+            ways: 0,
+            calls: 0,
+            random,
         }
-        u = both(log, hold, Cutting::Twice(first, second), SOME, u);
-        second += 1;
     }
-    u
-}
 
-// Every pair of cuts, also of equal ones.
-fn pairs(log: &[u8], hold: &mut [u8], t: Tally) -> Tally {
-    let mut u = t;
-    let mut first: usize = 0;
-    while first <= PAIRS_MOST {
-        if log.len() < first {
-            return u;
+    fn one<F: Form>(&mut self, cutting: Cutting, scribbled: usize) -> Result<(), Difference> {
+        let course = Course::new(self.log, cutting, self.random);
+        let mut run = Run::new(course, scribbled);
+        let outcome = run.run::<F>(self.hold);
+        let call = run.calls;
+        self.records = run.course.records;
+        self.random = run.course.cutter.random;
+        self.ways = self.ways.wrapping_add(1);
+        self.calls = self.calls.wrapping_add(call);
+        let way = self.ways;
+        outcome.map_err(|_| Difference { way, call })
+    }
+
+    // By value, then through the forms in place, with the same cuts.
+    fn both(&mut self, cutting: Cutting, scribbled: usize) -> Result<(), Difference> {
+        let random = self.random;
+        let by_value = self.one::<Value>(cutting, 0);
+        self.random = random;
+        by_value?;
+        self.one::<Place>(cutting, scribbled)
+    }
+
+    // Every second cut from the first on.
+    fn second_cuts(&mut self, first: usize) -> Result<(), Difference> {
+        for second in first..=self.log.len() {
+            self.both(Cutting::Twice(first, second), SOME)?;
         }
-        u = second_cuts(log, hold, first, u);
-        first += 1;
+        Ok(())
     }
-    u
-}
 
-// Every cut, with an empty piece between.
-fn cuts(log: &[u8], hold: &mut [u8], t: Tally) -> Tally {
-    let mut u = t;
-    let mut at: usize = 0;
-    while at <= CUTS_MOST {
-        if log.len() < at {
-            return u;
+    // Every pair of cuts, also of equal ones.
+    fn pairs(&mut self) -> Result<(), Difference> {
+        for first in 0..=self.log.len() {
+            self.second_cuts(first)?;
         }
-        u = both(log, hold, Cutting::Twice(at, at), SOME, u);
-        at += 1;
+        Ok(())
     }
-    u
-}
 
-fn randoms(log: &[u8], hold: &mut [u8], t: Tally) -> Tally {
-    let mut u = t;
-    let mut i: usize = 0;
-    while i < RANDOM_WAYS {
-        u = both(log, hold, Cutting::Random, ALL, u);
-        i += 1;
+    // Every cut, with an empty piece between.
+    fn cuts(&mut self) -> Result<(), Difference> {
+        for at in 0..=self.log.len() {
+            self.both(Cutting::Twice(at, at), SOME)?;
+        }
+        Ok(())
     }
-    u
-}
 
-pub fn all(log: &[u8], hold: &mut [u8], random: u64) -> Tally {
-    let none = Tally {
-        agrees: true,
-        records: 0,
-        ways: 0,
-        calls: 0,
-        at: 0,
-        random,
-    };
-    let whole = both(log, hold, Cutting::Whole, ALL, none);
-    let bytes = both(log, hold, Cutting::Bytes, SOME, whole);
-    let spaced = both(log, hold, Cutting::Spaced, SOME, bytes);
-    if log.len() <= PAIRS_MOST {
-        return pairs(log, hold, spaced);
+    fn randoms(&mut self) -> Result<(), Difference> {
+        for _ in 0..RANDOM_WAYS {
+            self.both(Cutting::Random, ALL)?;
+        }
+        Ok(())
     }
-    if log.len() <= CUTS_MOST {
-        return cuts(log, hold, spaced);
+
+    pub fn all(&mut self) -> Result<(), Difference> {
+        self.both(Cutting::Whole, ALL)?;
+        self.both(Cutting::Bytes, SOME)?;
+        self.both(Cutting::Spaced, SOME)?;
+        if self.log.len() <= PAIRS_MOST {
+            self.pairs()
+        } else if self.log.len() <= CUTS_MOST {
+            self.cuts()
+        } else {
+            self.randoms()
+        }
     }
-    randoms(log, hold, spaced)
 }

@@ -1,215 +1,174 @@
-// Where a way stands, and what each call is held to.
-use crate::cut::Cutter;
-use crate::{cut, same, whole};
-use record::Slot;
-use refusal::{Ending, Refusal};
+// What each call of a way is held to.
+use crate::cut::{Cutter, Cutting};
+use crate::whole;
+use record::{Slot, Turn};
+use refusal::{Ending, Refusal, Why};
 use standing::{REGISTERS, TALLIES};
 use walk::Cursor;
 use walker::{Answer, Fed, Walker};
 
-// What the next call is, or how the way ended.
+// A call that does not agree with the whole walk.
 #[derive(Clone, Copy)]
-pub enum Stage {
-    Feed,
-    Close,
-    // After the end or a refusal.
-    FeedAgain,
-    CloseAgain,
-    Agrees,
-    Differs,
+pub struct Differs;
+
+fn held_to(agrees: bool) -> Result<(), Differs> {
+    if agrees { Ok(()) } else { Err(Differs) }
 }
 
+// What comes after a feed.
+#[derive(Clone, Copy, PartialEq, Eq)]
+pub enum Next {
+    Feed,
+    // The last piece was taken.
+    Close,
+    // The log is refused.
+    Over,
+}
+
+// Where a way stands.
 #[derive(Clone, Copy)]
-pub struct State {
-    pub stage: Stage,
+pub struct Course<'a> {
+    pub log: &'a [u8],
     pub walker: Walker,
     // Where the whole walk stands, and how many bytes it needs there for a record: more than there
     // are where it stops.
-    pub cursor: Cursor,
-    pub needed: usize,
+    cursor: Cursor,
+    needed: usize,
     // What it has counted so far.
-    pub counts: [u32; REGISTERS],
-    pub tallies: [u32; TALLIES],
+    counts: [u32; REGISTERS],
+    tallies: [u32; TALLIES],
     // The bytes taken and the records given so far.
-    pub taken: usize,
+    taken: usize,
     pub records: usize,
     pub cutter: Cutter,
 }
 
-fn staged(s: State, stage: Stage) -> State {
-    let walker = s.walker;
-    let cursor = s.cursor;
-    let cutter = s.cutter;
-    let counts = s.counts;
-    let tallies = s.tallies;
-    State {
-        stage,
-        walker,
-        cursor,
-        needed: s.needed,
-        counts,
-        tallies,
-        taken: s.taken,
-        records: s.records,
-        cutter,
+impl<'a> Course<'a> {
+    // A log before the first call.
+    pub fn new(log: &'a [u8], cutting: Cutting, random: u64) -> Course<'a> {
+        let cursor = walk::opening();
+        Course {
+            log,
+            walker: walker::fresh(),
+            cursor,
+            needed: whole::needed_at(log, cursor),
+            counts: [0; REGISTERS],
+            tallies: [0; TALLIES],
+            taken: 0,
+            records: 0,
+            cutter: Cutter::new(cutting, log.len(), random),
+        }
     }
-}
 
-fn stage_if(s: State, agrees: bool, stage: Stage) -> State {
-    if agrees {
-        staged(s, stage)
-    } else {
-        staged(s, Stage::Differs)
+    // What is left of the piece at hand.
+    pub fn rest(&self) -> &'a [u8] {
+        self.log.get(self.taken..self.cutter.end).unwrap_or(&[])
     }
-}
 
-// To the next piece, or to closing where there is none.
-fn onward(s: State, len: usize) -> State {
-    let cutter = s.cutter;
-    if cut::is_last(cutter, len) {
-        return staged(s, Stage::Close);
+    // What the whole walk says next.
+    fn turn(&self) -> Turn {
+        whole::turn_at(self.log, self.cursor)
     }
-    let mut t = s;
-    t.cutter = cut::next(cutter, len);
-    t
-}
 
-// Whether the walker has counted what the whole walk has.
-fn is_standing(s: State, walker: Walker) -> bool {
-    let counts = s.counts;
-    let tallies = s.tallies;
-    let mine = walker.counts;
-    let own = walker.tallies;
-    same::numbers(&counts, &mine) && same::numbers(&tallies, &own)
-}
-
-// Whether the walker's numbers are those of a walker that holds the bytes from the cursor on.
-fn is_holding(s: State, walker: Walker, taken: usize) -> bool {
-    let cursor = s.cursor;
-    walker.total == taken
-        && walker.held == std::num::wrapping_sub_usize(taken, cursor.at as usize)
-        && is_standing(s, walker)
-}
-
-fn moved(s: State, walker: Walker, taken: usize) -> State {
-    let mut t = s;
-    t.walker = walker;
-    t.taken = taken;
-    t
-}
-
-// The whole piece was taken, and no record or refusal is complete.
-fn after_more(s: State, len: usize) -> State {
-    let cutter = s.cutter;
-    let walker = s.walker;
-    if s.taken == cutter.end && s.taken < s.needed && is_holding(s, walker, s.taken) {
-        return onward(s, len);
+    // Whether the walker's numbers are those of a walker that holds the bytes from the cursor on, and
+    // it has counted what the whole walk has.
+    fn is_holding(&self) -> bool {
+        self.walker.total == self.taken
+            && self.walker.held == self.taken.wrapping_sub(self.cursor.at as usize)
+            && self.walker.counts == self.counts
+            && self.walker.tallies == self.tallies
     }
-    staged(s, Stage::Differs)
-}
 
-// Past a record: the whole walk stands behind it.
-fn passed(log: &[u8], s: State, next: Cursor) -> State {
-    let mut t = s;
-    t.cursor = next;
-    t.needed = whole::needed_at(log, next);
-    t.records = std::num::wrapping_add_usize(s.records, 1);
-    t
-}
-
-fn counted(s: State, counts: [u32; REGISTERS], tallies: [u32; TALLIES]) -> State {
-    let mut t = s;
-    t.counts = counts;
-    t.tallies = tallies;
-    t
-}
-
-// What is left of the piece is fed again.
-fn fed_on(s: State, len: usize) -> State {
-    let cutter = s.cutter;
-    let walker = s.walker;
-    if !is_holding(s, walker, s.taken) {
-        return staged(s, Stage::Differs);
+    // To the next piece where all of this one is taken, or to closing where there is none.
+    fn onward(&mut self) -> Next {
+        if self.taken != self.cutter.end {
+            return Next::Feed;
+        }
+        if self.cutter.is_last() {
+            return Next::Close;
+        }
+        self.cutter.cut();
+        Next::Feed
     }
-    if s.taken == cutter.end {
-        return onward(s, len);
+
+    // The whole piece was taken, and no record or refusal is complete.
+    fn after_more(&mut self) -> Result<Next, Differs> {
+        held_to(self.taken == self.cutter.end && self.taken < self.needed && self.is_holding())?;
+        Ok(self.onward())
     }
-    s
-}
 
-fn after_record(log: &[u8], hold: &[u8], s: State, slot: Slot) -> State {
-    let cursor = s.cursor;
-    let mut counts = s.counts;
-    let mut tallies = s.tallies;
-    let turned = walk::next_record(log, cursor, &mut counts, &mut tallies);
-    let turn = turned.turn;
-    let next = turned.next;
-    if whole::is_given(log, hold, turn, s.taken, slot) {
-        return fed_on(passed(log, counted(s, counts, tallies), next), log.len());
+    // Whether a record is the one that the whole walk gives, ends where the bytes taken do, and stands
+    // at the hold's front.
+    fn is_given(&self, hold: &[u8], turn: Turn, slot: Slot) -> bool {
+        matches!(turn, Turn::Record(own) if own == slot)
+            && self.taken == whole::end_of(slot)
+            && self
+                .log
+                .get(slot.start..self.taken)
+                .is_some_and(|record| hold.starts_with(record))
     }
-    staged(s, Stage::Differs)
-}
 
-// The whole walk is refused so, by the last byte taken.
-fn after_refusal(log: &[u8], s: State, r: Refusal) -> State {
-    let cursor = s.cursor;
-    let walker = s.walker;
-    let agrees = same::is_stop(whole::turn_at(log, cursor), Ending::Refused(r))
-        && !whole::is_cut(r)
-        && is_holding(s, walker, s.taken);
-    stage_if(
-        s,
-        agrees && whole::rests_on(log, cursor, s.taken, r),
-        Stage::FeedAgain,
-    )
-}
-
-// A feed gives no end.
-fn after_stop(log: &[u8], s: State, e: Ending) -> State {
-    match e {
-        Ending::End { at, tail } => staged(s, Stage::Differs),
-        Ending::Refused(r) => after_refusal(log, s, r),
+    // The whole walk stands behind the record. What is left of the piece is fed again.
+    fn after_record(&mut self, hold: &[u8], slot: Slot) -> Result<Next, Differs> {
+        let turned = walk::next_record(self.log, self.cursor, &mut self.counts, &mut self.tallies);
+        held_to(self.is_given(hold, turned.turn, slot))?;
+        self.cursor = turned.next;
+        self.needed = whole::needed_at(self.log, self.cursor);
+        self.records = self.records.wrapping_add(1);
+        held_to(self.is_holding())?;
+        Ok(self.onward())
     }
-}
 
-pub fn after_feed(log: &[u8], hold: &[u8], s: State, f: Fed) -> State {
-    let reply = f.reply;
-    let walker = f.walker;
-    let answer = reply.answer;
-    let cutter = s.cutter;
-    let taken = std::num::wrapping_add_usize(s.taken, reply.count);
-    if walker.total != taken || cutter.end < taken {
-        return staged(s, Stage::Differs);
+    // Whether a refusal rests on the last byte taken: the log's beginning up to there is refused so,
+    // and one byte less is not refused yet.
+    fn rests_on(&self, r: Refusal) -> bool {
+        let Some(with) = self.log.get(..self.taken) else {
+            return false;
+        };
+        let Some((_, without)) = with.split_last() else {
+            return false;
+        };
+        whole::is_stop(whole::turn_at(with, self.cursor), Ending::Refused(r))
+            && whole::is_short(whole::turn_at(without, self.cursor))
     }
-    let t = moved(s, walker, taken);
-    match answer {
-        Answer::More => after_more(t, log.len()),
-        Answer::Record(slot) => after_record(log, hold, t, slot),
-        Answer::Stop(e) => after_stop(log, t, e),
+
+    // The whole walk is refused so, by the last byte taken.
+    fn after_refusal(&self, r: Refusal) -> Result<Next, Differs> {
+        held_to(
+            whole::is_stop(self.turn(), Ending::Refused(r))
+                && r.why != Why::FieldCut
+                && self.is_holding()
+                && self.rests_on(r),
+        )?;
+        Ok(Next::Over)
     }
-}
 
-// Whether a call took nothing and says how the whole walk stops.
-fn is_stop(log: &[u8], s: State, f: Fed) -> bool {
-    let reply = f.reply;
-    let walker = f.walker;
-    let answer = reply.answer;
-    let cursor = s.cursor;
-    reply.count == 0
-        && is_holding(s, walker, s.taken)
-        && same::answer(whole::turn_at(log, cursor), answer)
-}
+    pub fn after_feed(&mut self, hold: &[u8], f: Fed) -> Result<Next, Differs> {
+        self.walker = f.walker;
+        self.taken = self.taken.wrapping_add(f.reply.count);
+        held_to(self.walker.total == self.taken && self.taken <= self.cutter.end)?;
+        match f.reply.answer {
+            Answer::More => self.after_more(),
+            Answer::Record(slot) => self.after_record(hold, slot),
+            Answer::Stop(Ending::Refused(r)) => self.after_refusal(r),
+            // A feed gives no end.
+            Answer::Stop(Ending::End { .. }) => Err(Differs),
+        }
+    }
 
-// The log's end, or refusal 2.
-pub fn after_close(log: &[u8], s: State, f: Fed) -> State {
-    let walker = f.walker;
-    let cursor = s.cursor;
-    let agrees = is_stop(log, s, f) && whole::is_short(whole::turn_at(log, cursor));
-    stage_if(moved(s, walker, s.taken), agrees, Stage::FeedAgain)
-}
+    // The log's end, or refusal 2.
+    pub fn after_close(&mut self, f: Fed) -> Result<(), Differs> {
+        self.after_again(f)?;
+        held_to(whole::is_short(self.turn()))
+    }
 
-// The same again.
-pub fn after_again(log: &[u8], s: State, f: Fed, stage: Stage) -> State {
-    let walker = f.walker;
-    stage_if(moved(s, walker, s.taken), is_stop(log, s, f), stage)
+    // A call after the end or a refusal: it took nothing, and says again how the whole walk stops.
+    pub fn after_again(&mut self, f: Fed) -> Result<(), Differs> {
+        self.walker = f.walker;
+        held_to(
+            f.reply.count == 0
+                && self.is_holding()
+                && whole::is_answered(self.turn(), f.reply.answer),
+        )
+    }
 }

@@ -1,6 +1,6 @@
 // How a log is cut into pieces, and a hold overwritten between them.
 
-#[derive(Clone, Copy)]
+#[derive(Clone, Copy, PartialEq, Eq)]
 pub enum Cutting {
     Whole,
     // One byte to a piece.
@@ -13,12 +13,13 @@ pub enum Cutting {
     Random,
 }
 
-// A log that is being cut.
+// A log of so many bytes that is being cut.
 #[derive(Clone, Copy)]
 pub struct Cutter {
     pub cutting: Cutting,
+    len: usize,
     // The number of pieces so far, and where the last of them ends.
-    pub pieces: usize,
+    pieces: usize,
     pub end: usize,
     // The state of the generator.
     pub random: u64,
@@ -32,9 +33,9 @@ fn shifted(x: u64) -> u64 {
 }
 
 // Lengths of all orders, 0 among them.
-fn length_of(random: u64) -> u64 {
+fn length_of(random: u64) -> usize {
     let r = random / 8;
-    match random % 8 {
+    let n = match random % 8 {
         0 => 0,
         1 => 1,
         2 => r % 4,
@@ -43,85 +44,68 @@ fn length_of(random: u64) -> u64 {
         5 => r % 512,
         6 => r % 4096,
         _ => r % 32768,
-    }
-}
-
-fn on(end: usize, n: usize, len: usize) -> usize {
-    numbers::least(std::num::wrapping_add_usize(end, n), len)
-}
-
-fn spaced(pieces: usize, end: usize, len: usize) -> usize {
-    if pieces % 2 == 0 {
-        end
-    } else {
-        on(end, 1, len)
-    }
-}
-
-fn twice(pieces: usize, first: usize, second: usize, len: usize) -> usize {
-    match pieces {
-        0 => first,
-        1 => second,
-        _ => len,
-    }
-}
-
-// The end of the next piece.
-fn end_after(cutting: Cutting, pieces: usize, end: usize, len: usize, random: u64) -> usize {
-    match cutting {
-        Cutting::Whole => len,
-        Cutting::Bytes => on(end, 1, len),
-        Cutting::Spaced => spaced(pieces, end, len),
-        Cutting::Twice(first, second) => twice(pieces, first, second, len),
-        Cutting::Random => on(end, length_of(random) as usize, len),
-    }
-}
-
-// Cuts the next piece off a log of so many bytes.
-pub fn next(c: Cutter, len: usize) -> Cutter {
-    let cutting = c.cutting;
-    let random = shifted(c.random);
-    Cutter {
-        cutting,
-        pieces: std::num::wrapping_add_usize(c.pieces, 1),
-        end: end_after(cutting, c.pieces, c.end, len, random),
-        random,
-    }
-}
-
-// The first piece.
-pub fn first(cutting: Cutting, len: usize, random: u64) -> Cutter {
-    let c = Cutter {
-        cutting,
-        pieces: 0,
-        end: 0,
-        random,
     };
-    next(c, len)
+    n as usize
 }
 
-// Whether the last piece is cut off.
-pub fn is_last(c: Cutter, len: usize) -> bool {
-    let cutting = c.cutting;
-    let end = c.end == len;
-    match cutting {
-        Cutting::Whole => true,
-        Cutting::Bytes => end,
-        Cutting::Spaced => end && c.pieces % 2 == 1,
-        Cutting::Twice(first, second) => c.pieces == 3,
-        Cutting::Random => end,
+impl Cutter {
+    // With the first piece cut off.
+    pub fn new(cutting: Cutting, len: usize, random: u64) -> Cutter {
+        let mut cutter = Cutter {
+            cutting,
+            len,
+            pieces: 0,
+            end: 0,
+            random,
+        };
+        cutter.cut();
+        cutter
+    }
+
+    // Cuts the next piece off.
+    pub fn cut(&mut self) {
+        self.random = shifted(self.random);
+        self.end = self.next_end();
+        self.pieces = self.pieces.wrapping_add(1);
+    }
+
+    // Where the next piece ends.
+    fn next_end(&self) -> usize {
+        match self.cutting {
+            Cutting::Whole => self.len,
+            Cutting::Bytes => self.past(1),
+            Cutting::Spaced => self.past(self.pieces % 2),
+            Cutting::Twice(first, second) => match self.pieces {
+                0 => first,
+                1 => second,
+                _ => self.len,
+            },
+            Cutting::Random => self.past(length_of(self.random)),
+        }
+    }
+
+    // So many bytes on, as far as the log goes.
+    fn past(&self, n: usize) -> usize {
+        self.end.saturating_add(n).min(self.len)
+    }
+
+    // Whether the last piece is cut off.
+    pub fn is_last(&self) -> bool {
+        let all = self.end == self.len;
+        match self.cutting {
+            Cutting::Whole => true,
+            Cutting::Bytes => all,
+            Cutting::Spaced => all && self.pieces % 2 == 1,
+            Cutting::Twice(..) => self.pieces == 3,
+            Cutting::Random => all,
+        }
     }
 }
 
 // Overwrites n bytes of the hold from `from` on, as far as it goes.
 pub fn scribble(hold: &mut [u8], from: usize, n: usize, mark: u8) {
-    let end = std::num::wrapping_add_usize(from, n);
-    let mut i = from;
-    while i < hold.len() {
-        if end <= i {
-            return;
-        }
-        hold[i] = mark;
-        i += 1;
+    let end = from.saturating_add(n).min(hold.len());
+    if let Some(part) = hold.get_mut(from..end) {
+        part.fill(mark);
     }
 }

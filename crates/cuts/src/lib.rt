@@ -3,5 +3,4 @@
 
 pub mod course;
 pub mod cut;
-pub mod same;
 pub mod whole;

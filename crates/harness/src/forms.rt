@@ -1,30 +1,38 @@
-// A feed and a close by either form, which keep the same promise.
+// The two forms of a feed and a close, which keep the same promise.
 ghost use Rattle.walker.specs.Walker.{FeedSays, CloseSays};
 
 use walker::{Fed, Walker};
 
-// Which form of a call is made.
-#[derive(Clone, Copy)]
-pub enum Form {
-    Value,
-    // Where the walker lies.
-    Place,
+pub trait Form {
+    fn feed(w: Walker, hold: &mut [u8], piece: &[u8]) -> Fed
+        ensures { FeedSays w hold.old piece.now result.reply result.walker hold.new };
+
+    fn close(w: Walker, hold: &[u8]) -> Fed
+        ensures { CloseSays w hold.now result.reply result.walker };
 }
 
-pub fn feed(form: Form, w: Walker, hold: &mut [u8], piece: &[u8]) -> Fed
-    ensures { FeedSays w hold.old piece.now result.reply result.walker hold.new }
-{
-    match form {
-        Form::Value => walker::feed(w, hold, piece),
-        Form::Place => by_value::feed_through(w, hold, piece),
+// By value.
+pub struct Value;
+
+impl Form for Value {
+    fn feed(w: Walker, hold: &mut [u8], piece: &[u8]) -> Fed {
+        walker::feed(w, hold, piece)
+    }
+
+    fn close(w: Walker, hold: &[u8]) -> Fed {
+        walker::close(w, hold)
     }
 }
 
-pub fn close(form: Form, w: Walker, hold: &[u8]) -> Fed
-    ensures { CloseSays w hold.now result.reply result.walker }
-{
-    match form {
-        Form::Value => walker::close(w, hold),
-        Form::Place => by_value::close_through(w, hold),
+// Where the walker lies.
+pub struct Place;
+
+impl Form for Place {
+    fn feed(w: Walker, hold: &mut [u8], piece: &[u8]) -> Fed {
+        by_value::feed_through(w, hold, piece)
+    }
+
+    fn close(w: Walker, hold: &[u8]) -> Fed {
+        by_value::close_through(w, hold)
     }
 }

@@ -1,111 +1,77 @@
 // Standard input: letters, numbers of four bytes, and bytes behind their length.
 use refusal::LOG_MOST;
 
-// A letter where a command could start.
+// Why there is no log where one could start.
 #[derive(Clone, Copy)]
-pub enum Letter {
-    // The input ends.
-    Absent,
-    Is(u8),
-}
-
-// A number of four bytes.
-#[derive(Clone, Copy)]
-pub enum Field {
-    Is(u32),
-    // The input ends within it.
-    Cut,
-}
-
-// What stands behind a command's fields.
-#[derive(Clone, Copy)]
-pub enum Given {
-    // So many bytes, at the front of the buffer.
-    Bytes(usize),
-    // The command is cut short, or a field is outside its values.
-    Bad,
-}
-
-// What stands where a log could start.
-#[derive(Clone, Copy)]
-pub enum Input {
-    // A head and a log of so many bytes, at the front of their buffers.
-    Log(usize),
-    End,
+pub enum Broken {
     // The input ends within the head or the log.
     Short,
     // The log is longer than a log may be.
     Long,
 }
 
-pub fn next_letter() -> Letter {
-    let mut b = [0u8; 1];
-    if io::read_full(0, &mut b) < 1 {
-        return Letter::Absent;
+// The next bytes, which fill the buffer; none where the input ends before they do.
+fn next_bytes<const N: usize>() -> Option<[u8; N]> {
+    let mut b = [0u8; N];
+    if io::read_full(0, &mut b) < N {
+        return None;
     }
-    Letter::Is(numbers::byte(&b, 0))
+    Some(b)
 }
 
-pub fn next_field() -> Field {
-    let mut b = [0u8; 4];
-    if io::read_full(0, &mut b) < 4 {
-        return Field::Cut;
-    }
-    Field::Is(numbers::le32(&b, 0))
+// A letter where a command could start; none where the input ends.
+pub fn next_letter() -> Option<u8> {
+    let [b] = next_bytes::<1>()?;
+    Some(b)
 }
 
-// Reads n bytes, and answers whether the buffer has room for so many and there were so many.
-pub fn fill(buf: &mut [u8], n: usize) -> bool {
-    if buf.len() < n {
-        return false;
+// A number of four bytes; none where the input ends within it.
+pub fn next_field() -> Option<u32> {
+    let b = next_bytes::<4>()?;
+    Some(numbers::le32(&b, 0))
+}
+
+// The next n bytes, at the front of the buffer; none where it has no room for so many or the input
+// ends within them.
+pub fn fill(buf: &mut [u8], n: usize) -> Option<&[u8]> {
+    let front = buf.get_mut(..n)?;
+    if io::read_full(0, front) < n {
+        return None;
     }
-    io::read_full(0, &mut buf[..n]) == n
+    Some(front)
 }
 
 // A length and so many bytes.
-pub fn counted(buf: &mut [u8]) -> Given {
-    let Field::Is(n) = next_field() else {
-        return Given::Bad;
-    };
-    if !fill(buf, n as usize) {
-        return Given::Bad;
-    }
-    Given::Bytes(n as usize)
+pub fn counted(buf: &mut [u8]) -> Option<&[u8]> {
+    let n = next_field()?;
+    fill(buf, n as usize)
 }
 
 // A log of so many bytes.
-fn log_of(log: &mut [u8], len: usize) -> Input {
+fn log_of(log: &mut [u8], len: usize) -> Result<Option<&[u8]>, Broken> {
     if LOG_MOST < len {
-        return Input::Long;
+        return Err(Broken::Long);
     }
-    if fill(log, len) {
-        Input::Log(len)
-    } else {
-        Input::Short
+    let log = fill(log, len).ok_or(Broken::Short)?;
+    Ok(Some(log))
+}
+
+// A head of three numbers, of which the last is a length, and so many bytes; nothing where the input
+// ends.
+pub fn next_task<'a>(head: &mut [u8; 12], log: &'a mut [u8]) -> Result<Option<&'a [u8]>, Broken> {
+    match io::read_full(0, head) {
+        0 => Ok(None),
+        12 => log_of(log, numbers::le32(head, 8) as usize),
+        _ => Err(Broken::Short),
     }
 }
 
-// A head of three numbers, of which the last is a length, and so many bytes.
-pub fn next_task(head: &mut [u8; 12], log: &mut [u8]) -> Input {
-    let n = io::read_full(0, head);
-    if n == 0 {
-        return Input::End;
-    }
-    if n < 12 {
-        return Input::Short;
-    }
-    log_of(log, numbers::le32(head, 8) as usize)
-}
-
-// A length and so many bytes.
-pub fn next_log(log: &mut [u8]) -> Input {
+// A length and so many bytes; nothing where the input ends.
+pub fn next_log(log: &mut [u8]) -> Result<Option<&[u8]>, Broken> {
     let mut head = [0u8; 4];
-    let n = io::read_full(0, &mut head);
-    if n == 0 {
-        return Input::End;
+    match io::read_full(0, &mut head) {
+        0 => Ok(None),
+        4 => log_of(log, numbers::le32(&head, 0) as usize),
+        _ => Err(Broken::Short),
     }
-    if n < 4 {
-        return Input::Short;
-    }
-    log_of(log, numbers::le32(&head, 0) as usize)
 }

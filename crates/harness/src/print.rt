@@ -1,125 +1,182 @@
-// Lines on standard output: words with a mark, `#`, where a number goes.
-ghost use Rattle.std.specs.Prelude.{◌≡◌, ℕ, ◌<◌, ◌≤◌, length, ◌≢◌, slice_index};
-
+// Lines on standard output. A program that tells a slot, an ending or a refusal tells it in these
+// words.
+use crate::input::Broken;
 use contents::{Contents, Separated};
+use gpt::Header;
 use numbers::Span;
 use record::Slot;
-use refusal::{Ending, Refusal};
+use refusal::{Ending, LOG_MOST, Refusal};
+use spec_id::MarkerFields;
+use std::fmt;
 
-pub fn say(words: &[u8]) {
-    io::write_all(1, words);
-}
+// Standard output by its number: std's own printing would assume C's error texts too.
+#[derive(Clone, Copy)]
+struct Out;
 
-// The number with an index, 0 past the last.
-fn number_at(numbers: &[u64], i: usize) -> u64
-    ensures { result ≡ slice_index numbers.now i }
-{
-    if i < numbers.len() { numbers[i] } else { 0 }
-}
-
-// Where the next mark stands, or the words' end.
-fn next_mark(words: &[u8], from: usize) -> usize
-    ensures onward { from ≤ result }
-    ensures before { (k : ℕ) → k < result → from ≤ k → slice_index words.now k ≢ 35 }
-    ensures found { result < length words.now → slice_index words.now result ≡ 35 }
-{
-    let mut at = from;
-    while at < words.len() {
-        if words[at] == b'#' {
-            return at;
+impl fmt::Write for Out {
+    fn write_str(&mut self, words: &str) -> fmt::Result {
+        if io::write_all(1, words.as_bytes()) {
+            Ok(())
+        } else {
+            Err(fmt::Error)
         }
-        at += 1;
-    }
-    at
-}
-
-// The words from `from` to the next mark, and there a number; answers where they go on.
-fn piece(words: &[u8], from: usize, n: u64) -> usize
-    requires { from < length words.now }
-    ensures { from < result }
-{
-    let mark = next_mark(words, from);
-    let len = mark - from;
-    say(numbers::part(words, Span { at: from, len }));
-    if words.len() <= mark {
-        return mark;
-    }
-    io::print_decimal(1, n);
-    mark + 1
-}
-
-// The words with the numbers from the i-th on at their marks; answers the index after the last.
-fn filled(words: &[u8], numbers: &[u64], first: usize) -> usize {
-    let mut from: usize = 0;
-    let mut i = first;
-    while from < words.len() {
-        from = piece(words, from, number_at(numbers, i));
-        i = std::num::wrapping_add_usize(i, 1);
-    }
-    i
-}
-
-// The words with the numbers at their marks.
-pub fn line(words: &[u8], numbers: &[u64]) {
-    filled(words, numbers, 0);
-}
-
-pub fn refused(r: Refusal) {
-    let why = r.why;
-    line(
-        b"refused # at #\n",
-        &[refusal::number_of(why) as u64, r.at as u64],
-    );
-}
-
-pub fn ending(e: Ending) {
-    match e {
-        Ending::End { at, tail } => line(b"end at # tail #\n", &[at as u64, tail as u64]),
-        Ending::Refused(r) => refused(r),
     }
 }
 
-fn separator(s: Separated, numbers: &[u64], first: usize) -> usize {
-    match s {
-        Separated::Uefi => filled(b" separator uefi\n", numbers, first),
-        Separated::Bios => filled(b" separator bios\n", numbers, first),
+// Writes words. What cannot be written is left out.
+pub fn say<D: fmt::Display + Drop>(words: D) {
+    let mut out = Out;
+    let _ = fmt::Write::write_fmt(&mut out, format_args!("{words}"));
+}
+
+pub fn line<D: fmt::Display + Drop>(words: D) {
+    say(format_args!("{words}\n"));
+}
+
+// There is no log, task or part with an index, for what is wrong with the input.
+pub fn broken(why: Broken, what: &str, index: u64) {
+    match why {
+        Broken::Short => line(format_args!("standard input ends inside {what} {index}")),
+        Broken::Long => line(format_args!("over {LOG_MOST} bytes: {what} {index}")),
     }
 }
 
-fn inside(c: Contents, numbers: &[u64], first: usize) -> usize {
-    match c {
-        Contents::Empty => filled(b" none\n", numbers, first),
-        Contents::Text(_) => filled(b" text #+#\n", numbers, first),
-        Contents::Variable(_) => filled(b" variable guid #+# name #+# data #+#\n", numbers, first),
-        Contents::Image(_) => filled(
-            b" image location # length # link # path #+# nodes # extra #+#\n",
-            numbers,
-            first,
-        ),
-        Contents::Gpt(_) => filled(
-            b" gpt revision # size # spare # my # other # first # last # disk #+# lba # reserved #+# h # e # entries #\n",
-            numbers,
-            first,
-        ),
-        Contents::Blob(_) => filled(b" blob base # length #\n", numbers, first),
-        Contents::Separator(s) => separator(s, numbers, first),
-        Contents::Marker(_) => filled(
-            b" marker class # minor # major # errata # uintn # pairs # vendor #+#\n",
-            numbers,
-            first,
-        ),
+// A range as it is told: its start and its length.
+#[derive(Clone, Copy)]
+pub struct SpanWords(pub Span);
+
+impl fmt::Display for SpanWords {
+    fn fmt<W: fmt::Write>(&self, f: &mut fmt::Formatter<W>) -> fmt::Result {
+        write!(f, "{}+{}", self.0.at, self.0.len)
     }
 }
 
-// A slot's line, by its numbers.
-pub fn slot(s: Slot) {
-    let fields = fields::fields_of(s);
-    let numbers = fields.numbers;
-    let contents = s.contents;
-    let first = filled(
-        b"at # pcr # type # place # digests # data #+# nth #",
-        &numbers,
-        0,
-    );
-    inside(contents, &numbers, first);
+// A refusal in a program's words.
+#[derive(Clone, Copy)]
+pub struct RefusalWords(pub Refusal);
+
+impl fmt::Display for RefusalWords {
+    fn fmt<W: fmt::Write>(&self, f: &mut fmt::Formatter<W>) -> fmt::Result {
+        write!(
+            f,
+            "refused {} at {}",
+            refusal::number_of(self.0.why),
+            self.0.at
+        )
+    }
+}
+
+// How a log ends.
+#[derive(Clone, Copy)]
+pub struct EndingWords(pub Ending);
+
+impl fmt::Display for EndingWords {
+    fn fmt<W: fmt::Write>(&self, f: &mut fmt::Formatter<W>) -> fmt::Result {
+        match self.0 {
+            Ending::End { at, tail } => write!(f, "end at {at} tail {tail}"),
+            Ending::Refused(r) => write!(f, "{}", RefusalWords(r)),
+        }
+    }
+}
+
+// A slot with its contents.
+#[derive(Clone, Copy)]
+pub struct SlotWords(pub Slot);
+
+impl fmt::Display for SlotWords {
+    fn fmt<W: fmt::Write>(&self, f: &mut fmt::Formatter<W>) -> fmt::Result {
+        let s = self.0;
+        write!(
+            f,
+            "at {} pcr {} type {} place {} digests {} data {} nth {}{}",
+            s.start,
+            s.register,
+            s.event,
+            s.digest_place,
+            s.digests,
+            SpanWords(s.data),
+            s.serial,
+            ContentsWords(s.contents)
+        )
+    }
+}
+
+#[derive(Clone, Copy)]
+struct ContentsWords(Contents);
+
+impl fmt::Display for ContentsWords {
+    fn fmt<W: fmt::Write>(&self, f: &mut fmt::Formatter<W>) -> fmt::Result {
+        match self.0 {
+            Contents::Empty => f.write_str(" none"),
+            Contents::Text(r) => write!(f, " text {}", SpanWords(r)),
+            Contents::Variable(v) => write!(
+                f,
+                " variable guid {} name {} data {}",
+                SpanWords(v.guid),
+                SpanWords(v.name),
+                SpanWords(v.rest)
+            ),
+            Contents::Image(i) => write!(
+                f,
+                " image location {} length {} link {} path {} nodes {} extra {}",
+                i.location,
+                i.len,
+                i.link,
+                SpanWords(i.path),
+                i.nodes,
+                SpanWords(i.extra)
+            ),
+            Contents::Gpt(h) => write!(f, " gpt {}", HeaderWords(h)),
+            Contents::Blob(b) => write!(f, " blob base {} length {}", b.base, b.len),
+            Contents::Separator(Separated::Uefi) => f.write_str(" separator uefi"),
+            Contents::Separator(Separated::Bios) => f.write_str(" separator bios"),
+            Contents::Marker(m) => write!(f, " marker {}", MarkerWords(m)),
+        }
+    }
+}
+
+#[derive(Clone, Copy)]
+struct HeaderWords(Header);
+
+impl fmt::Display for HeaderWords {
+    fn fmt<W: fmt::Write>(&self, f: &mut fmt::Formatter<W>) -> fmt::Result {
+        let h = self.0;
+        write!(
+            f,
+            "revision {} size {} spare {} my {} other {} first {} last {} disk {} lba {} reserved {} h {} e {} entries {}",
+            h.revision,
+            h.size,
+            h.spare,
+            h.my_lba,
+            h.alternate_lba,
+            h.first_usable_lba,
+            h.last_usable_lba,
+            SpanWords(h.disk_guid),
+            h.entry_lba,
+            SpanWords(h.reserved),
+            h.end,
+            h.entry_size,
+            h.entries
+        )
+    }
+}
+
+#[derive(Clone, Copy)]
+struct MarkerWords(MarkerFields);
+
+impl fmt::Display for MarkerWords {
+    fn fmt<W: fmt::Write>(&self, f: &mut fmt::Formatter<W>) -> fmt::Result {
+        let m = self.0;
+        write!(
+            f,
+            "class {} minor {} major {} errata {} uintn {} pairs {} vendor {}",
+            m.class,
+            m.minor,
+            m.major,
+            m.errata,
+            m.uintn,
+            m.pairs,
+            SpanWords(m.vendor)
+        )
+    }
 }

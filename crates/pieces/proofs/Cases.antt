@@ -1,9 +1,9 @@
 -- Worked cases of the words in which runs and promptness are stated (specs/Run.antt, specs/Prompt.antt), by computation; made-up walkers,
 -- calls that are not prompt, and accounts beside the shape (specs/Account.antt). Assumes nothing.
+use Rattle.std.specs.Prelude.{Option, None, Some}
 use Prim.Native.Nat.{ℕ, ◌+◌}
 use mathlib.Core.Path.{◌≡◌, refl, ap}
 use mathlib.Core.Bool.{Bool, true, false}
-use mathlib.Core.Option.{Option, none, some}
 use mathlib.Core.List.{List, [], ◌∷◌, map}
 use native.Mathlib.Omega.{arith}
 use lib.ListN.{length, take, drop, get_or}
@@ -87,14 +87,14 @@ abbrev stays : Walker (Unit {0}) → List ℕ → Ending → Outcome (Walker (Un
 stays w hold e = record { answer = stops e; count = 0; walker = w; hold = hold }
 
 abbrev tested : Bool → ℕ → ℕ → List ℕ → Outcome (Walker (Unit {0})) Item
-tested bad held total hold = feed_of judge 4 12 (λ t sh. bad) (walker held total none) hold []
+tested bad held total hold = feed_of judge 4 12 (λ t sh. bad) (walker held total None) hold []
 
 -- 14 at 0: a hold of 3 bytes, 5 held, a total of 13, 3 held of a total of 2, a wrong shape
-out-of-range : (tested false 0 0 (0 ∷ 0 ∷ 0 ∷ []) ≡ stays (walker 0 0 none) (0 ∷ 0 ∷ 0 ∷ []) (refused_with OutOfRange 0))
-    × (tested false 5 12 (3 ∷ 0 ∷ 0 ∷ 0 ∷ 0 ∷ []) ≡ stays (walker 5 12 none) (3 ∷ 0 ∷ 0 ∷ 0 ∷ 0 ∷ []) (refused_with OutOfRange 0))
-    × (tested false 0 13 (0 ∷ 0 ∷ 0 ∷ 0 ∷ []) ≡ stays (walker 0 13 none) (0 ∷ 0 ∷ 0 ∷ 0 ∷ []) (refused_with OutOfRange 0))
-    × (tested false 3 2 (0 ∷ 0 ∷ 0 ∷ 0 ∷ []) ≡ stays (walker 3 2 none) (0 ∷ 0 ∷ 0 ∷ 0 ∷ []) (refused_with OutOfRange 0))
-    × (tested true 0 0 (0 ∷ 0 ∷ 0 ∷ 0 ∷ []) ≡ stays (walker 0 0 none) (0 ∷ 0 ∷ 0 ∷ 0 ∷ []) (refused_with OutOfRange 0))
+out-of-range : (tested false 0 0 (0 ∷ 0 ∷ 0 ∷ []) ≡ stays (walker 0 0 None) (0 ∷ 0 ∷ 0 ∷ []) (refused_with OutOfRange 0))
+    × (tested false 5 12 (3 ∷ 0 ∷ 0 ∷ 0 ∷ 0 ∷ []) ≡ stays (walker 5 12 None) (3 ∷ 0 ∷ 0 ∷ 0 ∷ 0 ∷ []) (refused_with OutOfRange 0))
+    × (tested false 0 13 (0 ∷ 0 ∷ 0 ∷ 0 ∷ []) ≡ stays (walker 0 13 None) (0 ∷ 0 ∷ 0 ∷ 0 ∷ []) (refused_with OutOfRange 0))
+    × (tested false 3 2 (0 ∷ 0 ∷ 0 ∷ 0 ∷ []) ≡ stays (walker 3 2 None) (0 ∷ 0 ∷ 0 ∷ 0 ∷ []) (refused_with OutOfRange 0))
+    × (tested true 0 0 (0 ∷ 0 ∷ 0 ∷ 0 ∷ []) ≡ stays (walker 0 0 None) (0 ∷ 0 ∷ 0 ∷ 0 ∷ []) (refused_with OutOfRange 0))
 unfolding feed_of
 out-of-range = (refl, refl, refl, refl, refl)
 
@@ -105,14 +105,14 @@ unfolding feed_of taken judge
 in-range = (refl, refl)
 
 -- a close inside a field: 2 at that field, and held and total are left
-cut-at-a-close : close_of judge 4 12 (λ t sh. false) (walker 1 8 none) (2 ∷ 0 ∷ 0 ∷ 0 ∷ [])
-    ≡ stays (walker 1 8 (some (refused_with FieldCut 8))) (2 ∷ 0 ∷ 0 ∷ 0 ∷ []) (refused_with FieldCut 8)
+cut-at-a-close : close_of judge 4 12 (λ t sh. false) (walker 1 8 None) (2 ∷ 0 ∷ 0 ∷ 0 ∷ [])
+    ≡ stays (walker 1 8 (Some (refused_with FieldCut 8))) (2 ∷ 0 ∷ 0 ∷ 0 ∷ []) (refused_with FieldCut 8)
 unfolding close_of judge
 cut-at-a-close = refl
 
 -- an answer that is kept, at a close
-kept-at-a-close : close_of judge 4 12 (λ t sh. false) (walker 1 8 (some (Ending.End 3 1))) (2 ∷ 0 ∷ 0 ∷ 0 ∷ [])
-    ≡ stays (walker 1 8 (some (Ending.End 3 1))) (2 ∷ 0 ∷ 0 ∷ 0 ∷ []) (Ending.End 3 1)
+kept-at-a-close : close_of judge 4 12 (λ t sh. false) (walker 1 8 (Some (Ending.End 3 1))) (2 ∷ 0 ∷ 0 ∷ 0 ∷ [])
+    ≡ stays (walker 1 8 (Some (Ending.End 3 1))) (2 ∷ 0 ∷ 0 ∷ 0 ∷ []) (Ending.End 3 1)
 unfolding close_of judge
 kept-at-a-close = refl
 

@@ -6,10 +6,10 @@
 --   Step                       what a call did to an open walker: how it answered (`Next`), and what holds whatever it answered
 --   feed-step, close-step      what a feed and a close do
 -- Assumes nothing.
+use Rattle.std.specs.Prelude.{None, Some}
 use Prim.Native.Nat.{ℕ, ◌+◌, ◌-◌, ◌≤◌, ◌<◌}
 use mathlib.Core.Path.{◌≡◌, refl, sym, ap, ◌∙◌}
 use mathlib.Core.Bool.{Bool, true, false}
-use mathlib.Core.Option.{none, some}
 use mathlib.Core.List.{List, [], ◌∷◌, ◌++◌, append_assoc, append-nil}
 use native.Mathlib.Omega.{arith}
 use native.Mathlib.Nat.{add-zero}
@@ -39,7 +39,7 @@ use Rattle.pieces.proofs.WentLaws.{went-snoc}
 module _ {Shape Rec : Type 0} (judge : Judge Shape Rec) (full most : ℕ) (wrong : ℕ → Shape → Bool) (sh : Shape) (log : List ℕ) where
   -- No call has stopped: the record in hand starts at `base`, and the records rs were given.
   pub record Open (base : ℕ) (rs : List Rec) (w : Walker Shape) (last : List ℕ) : Type 0 where
-    pub awake : w.kept ≡ none
+    pub awake : w.kept ≡ None
     -- the shape is right where the record in hand starts, and so at the total
     pub fine : wrong base w.shape ≡ false
     pub place : w.total ≡ base + w.held
@@ -57,7 +57,7 @@ module _ {Shape Rec : Type 0} (judge : Judge Shape Rec) (full most : ℕ) (wrong
 
   -- A call has stopped with e, and every hold of full size is in range.
   pub record Shut (e : Ending) (w : Walker Shape) : Type 0 where
-    pub keeps : w.kept ≡ some e
+    pub keeps : w.kept ≡ Some e
     pub ranged : (hold : List ℕ) → full ≤ length hold → InRange full most wrong w hold
 
   -- A call of outcome o to the open walker w stopped, where the records rs were given before.

@@ -2,10 +2,10 @@
 -- those bytes; 255 is refused with 9 at the record's start. A record reaches 4 bytes, a log 12, and every shape is right.
 -- First the format, then the theorems at it, then worked cases by computation: logs, slots, made-up walkers, and a run of seven calls.
 -- Assumes nothing.
+use Rattle.std.specs.Prelude.{None, Some}
 use Prim.Native.Nat.{ℕ, ◌+◌, ◌≤◌, ◌<◌}
 use mathlib.Core.Path.{◌≡◌, refl}
 use mathlib.Core.Bool.{Bool, true, false}
-use mathlib.Core.Option.{none, some}
 use mathlib.Core.List.{List, [], ◌∷◌, ◌++◌}
 use native.Mathlib.Omega.{arith}
 use lib.Dec.{eqb}
@@ -178,11 +178,11 @@ close w hold = close_of judge 4 12 wrong w hold
 
 -- `held` of `total` bytes, and nothing kept
 abbrev walker : ℕ → ℕ → Walker (Unit {0})
-walker held total = record { shape = tt; held = held; total = total; kept = none }
+walker held total = record { shape = tt; held = held; total = total; kept = None }
 
 -- the same, and e is kept
 abbrev done : ℕ → ℕ → Ending → Walker (Unit {0})
-done held total e = record { shape = tt; held = held; total = total; kept = some e }
+done held total e = record { shape = tt; held = held; total = total; kept = Some e }
 
 -- three held bytes of which two are a record: the record, 0 taken, at a feed and at a close
 held-record : feed (walker 3 8) (1 ∷ 7 ∷ 5 ∷ 6 ∷ []) (9 ∷ [])

@@ -14,13 +14,13 @@ use Rattle.refusal.specs.Limits.{log_most}
 use Rattle.pieces.specs.Walk.{Told, add, whole_walk}
 use Rattle.pieces.specs.Slots.{into}
 use Rattle.pieces.proofs.SlotLaws.{fit_all}
+use Rattle.record.specs.declared.Cursor.{Cursor}
 use Rattle.record.specs.declared.Slot.{Slot}
 use Rattle.record.specs.declared.Turn.{Turn}
 use Rattle.record.specs.Record.{judge_of, opening_shape}
 use Rattle.standing.specs.Serials.{numbered, whole_told}
 use Rattle.standing.specs.Standing.{Standing, standing_by, none_yet}
 use Rattle.standing.proofs.SerialLaws.{numbered-length}
-use Rattle.walk.specs.declared.Cursor.{Cursor}
 use Rattle.walk.specs.Turn.{opening_cursor, turn_of}
 use Rattle.walk.specs.Fill.{bare_into}
 use Rattle.walk.specs.Divides.{Means}

@@ -3,6 +3,7 @@
 --   cut-anew    a log of two such records: 10 bytes; then all the rest, over a hold whose other bytes have changed while the 10 are held, which gives
 --               the first record; then what is left of it, cut anew into 5 bytes and 31, which gives the second; then the close
 -- Assumes nothing.
+use Rattle.std.specs.Prelude.{Some, None}
 use Prim.Native.Nat.{ℕ, ◌≤◌}
 use mathlib.Core.Path.{refl, sym}
 use mathlib.Core.Bool.{false}
@@ -19,7 +20,6 @@ use Rattle.pieces.specs.Feed.{gives, stops, wants, Outcome}
 use Rattle.pieces.specs.Run.{fed_call, close_call, rests, feeds, closes}
 use Rattle.record.specs.declared.Kind.{Kind}
 use Rattle.record.specs.declared.Slot.{Slot}
-use Rattle.walker.specs.declared.Kept.{Kept}
 use Rattle.walker.specs.declared.Walker.{Walker}
 use Rattle.walker.specs.Walker.{fresh_walker}
 use Rattle.promises.specs.Bench.{one}
@@ -32,11 +32,11 @@ separator = one 4 (replicate 4 0)
 
 -- a walker that is open, at the log's start or behind its first record
 abbrev before : ℕ → ℕ → Walker
-before held total = walker held total Kind.First Kept.Open 0
+before held total = walker held total Kind.First None 0
 
 -- behind so many records
 abbrev behind : ℕ → ℕ → ℕ → Walker
-behind n held total = walker held total Kind.Sha1 Kept.Open n
+behind n held total = walker held total Kind.Sha1 None n
 
 -- ---- all at once
 
@@ -46,7 +46,7 @@ module _ (h₁ h₂ : List ℕ) (full₁ : hold_full ≤ length h₁) (full₂ :
   taken₁ = record { answer = gives (slot_at 0 8 32 0); count = 36; walker = behind 1 0 36; hold = separator ++ drop 36 h₁ }
 
   abbrev closed₁ : Outcome Walker Slot
-  closed₁ = record { answer = stops (Ending.End 36 0); count = 0; walker = walker 0 36 Kind.Sha1 (Kept.Stopped (Ending.End 36 0)) 1; hold = h₂ }
+  closed₁ = record { answer = stops (Ending.End 36 0); count = 0; walker = walker 0 36 Kind.Sha1 (Some (Ending.End 36 0)) 1; hold = h₂ }
 
   feed₁ : Feeds fresh_walker h₁ separator taken₁
   unfolding walk_computing taken any_above
@@ -96,7 +96,7 @@ module _ (h₁ j₂ h₃ j₄ h₅ : List ℕ) (full₁ : hold_full ≤ length h
   second = record { answer = gives (slot_at 36 44 68 1); count = 31; walker = behind 2 0 72; hold = separator ++ drop 31 j₄ }
 
   abbrev end : Outcome Walker Slot
-  end = record { answer = stops (Ending.End 72 0); count = 0; walker = walker 0 72 Kind.Sha1 (Kept.Stopped (Ending.End 72 0)) 2; hold = h₅ }
+  end = record { answer = stops (Ending.End 72 0); count = 0; walker = walker 0 72 Kind.Sha1 (Some (Ending.End 72 0)) 2; hold = h₅ }
 
   feed-ten : Feeds fresh_walker h₁ (take 10 separator) ten
   unfolding walk_computing taken any_above

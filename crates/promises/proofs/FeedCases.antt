@@ -1,5 +1,6 @@
 -- Feeds and closes written out: what is said, the walker then and the hold then, over any hold of full size. The bytes that a walker holds
 -- start at 100 of the log. Assumes nothing.
+use Rattle.std.specs.Prelude.{Option, Some, None}
 use Prim.Native.Nat.{ℕ, ◌-◌, ◌≤◌}
 use mathlib.Core.Path.{◌≡◌, refl, sym, ap}
 use mathlib.Core.Bool.{false}
@@ -29,10 +30,9 @@ use Rattle.record.specs.Record.{shape_of}
 use Rattle.standing.specs.Standing.{Standing, none_yet, any_above, over_total, counted_judge}
 use Rattle.walk.proofs.Cases.{computing as walk_computing}
 use Rattle.walker.specs.declared.Answer.{Answer}
-use Rattle.walker.specs.declared.Kept.{Kept}
 use Rattle.walker.specs.declared.Reply.{Reply}
 use Rattle.walker.specs.declared.Walker.{Walker}
-use Rattle.walker.specs.Walker.{kept_of, stand_of, walker_of, walker_by, reply_by, fresh_walker, wrong, feed_to, close_to, FeedSays, CloseSays}
+use Rattle.walker.specs.Walker.{stand_of, walker_of, walker_by, reply_by, fresh_walker, wrong, feed_to, close_to, FeedSays, CloseSays}
 use Rattle.promises.specs.Bench.{doubled, agile}
 use Rattle.promises.proofs.Range.{feed-14}
 
@@ -41,7 +41,7 @@ abbrev next : Kind → Shape
 next kind = shape_of kind (table_with [])
 
 -- n records of register 0 and as many SHA-1 digests were counted
-abbrev pub walker : ℕ → ℕ → Kind → Kept → ℕ → Walker
+abbrev pub walker : ℕ → ℕ → Kind → Option Ending → ℕ → Walker
 walker held total kind kept n =
     record {
       held = held;
@@ -71,12 +71,12 @@ slot_at start place at serial =
 abbrev far : List ℕ
 far = replicate 28 0 ++ (0xFF ∷ 0xFF ∷ 0xFF ∷ 0xFF ∷ [])
 
-fresh-walker : fresh_walker ≡ walker 0 0 Kind.First Kept.Open 0
+fresh-walker : fresh_walker ≡ walker 0 0 Kind.First None 0
 fresh-walker = refl
 
 -- what a feed and a close say once they pass the tests; the numbers of the walkers below are small
 module _ (w : Walker) (h : List ℕ) (full : 32768 ≤ length h) (order : w.held ≤ w.total) (small : w.total ≤ 200) (pairs : w.shape.pairs.count ≤ pairs_most)
-    (unkept : w.kept ≡ Kept.Open) (few : over_total w.total (stand_of w).account ≡ false) where
+    (unkept : w.kept ≡ None) (few : over_total w.total (stand_of w).account ≡ false) where
   abbrev look : List ℕ → Verdict (With Shape Standing) Slot
   look = counted_judge (stand_of w) (w.total - w.held)
 
@@ -89,82 +89,82 @@ module _ (w : Walker) (h : List ℕ) (full : 32768 ≤ length h) (order : w.held
       FeedSays w h piece (reply_by o) (walker_by o.walker) o.hold
   unfolding feed_to
   feed-says piece short =
-      let e = sym (feed-passed counted_judge hold_full log_most wrong (walker_of w) h ranged piece (ap kept_of unkept) (omega (arith, small, short))) in
+      let e = sym (feed-passed counted_judge hold_full log_most wrong (walker_of w) h ranged piece unkept (omega (arith, small, short))) in
       (ap reply_by e, ap (λ o. walker_by o.walker) e, ap (λ o. o.hold) e)
 
   pub close-says : let o : Outcome (F.Walker (With Shape Standing)) Slot = closed (walker_of w) h (take w.held h) (look (take w.held h)) in
       CloseSays w h (reply_by o) (walker_by o.walker)
   unfolding close_to
   close-says =
-      let e = sym (close_passed counted_judge hold_full log_most wrong (walker_of w) h ranged (ap kept_of unkept)) in
+      let e = sym (close_passed counted_judge hold_full log_most wrong (walker_of w) h ranged unkept) in
       (ap reply_by e, ap (λ o. walker_by o.walker) e)
 
 -- ---- a walker that has had nothing
 
 module _ (h : List ℕ) (full : 32768 ≤ length h) where
   -- the record, and what is left of the piece is not taken
-  record-fed : FeedSays (walker 0 0 Kind.First Kept.Open 0) h (front ++ rest ++ (7 ∷ 8 ∷ []))
-      (reply (Answer.Record (slot_at 0 8 32 0)) 36) (walker 0 36 Kind.Sha1 Kept.Open 1) (front ++ rest ++ drop 36 h)
+  record-fed : FeedSays (walker 0 0 Kind.First None 0) h (front ++ rest ++ (7 ∷ 8 ∷ []))
+      (reply (Answer.Record (slot_at 0 8 32 0)) 36) (walker 0 36 Kind.Sha1 None 1) (front ++ rest ++ drop 36 h)
   unfolding walk_computing taken any_above
-  record-fed = feed-says (walker 0 0 Kind.First Kept.Open 0) h full (omega arith) (omega arith) (omega arith) refl refl (front ++ rest ++ (7 ∷ 8 ∷ [])) (omega arith)
+  record-fed = feed-says (walker 0 0 Kind.First None 0) h full (omega arith) (omega arith) (omega arith) refl refl (front ++ rest ++ (7 ∷ 8 ∷ [])) (omega arith)
 
   -- 3 with the size's last byte
-  refusal-fed : FeedSays (walker 0 0 Kind.First Kept.Open 0) h (far ++ (7 ∷ 8 ∷ []))
-      (reply (Answer.Stop (refused_with Why.FieldTooFar 32)) 32) (walker 32 32 Kind.First (Kept.Stopped (refused_with Why.FieldTooFar 32)) 0) (far ++ drop 32 h)
+  refusal-fed : FeedSays (walker 0 0 Kind.First None 0) h (far ++ (7 ∷ 8 ∷ []))
+      (reply (Answer.Stop (refused_with Why.FieldTooFar 32)) 32) (walker 32 32 Kind.First (Some (refused_with Why.FieldTooFar 32)) 0) (far ++ drop 32 h)
   unfolding walk_computing taken any_above
-  refusal-fed = feed-says (walker 0 0 Kind.First Kept.Open 0) h full (omega arith) (omega arith) (omega arith) refl refl (far ++ (7 ∷ 8 ∷ [])) (omega arith)
+  refusal-fed = feed-says (walker 0 0 Kind.First None 0) h full (omega arith) (omega arith) (omega arith) refl refl (far ++ (7 ∷ 8 ∷ [])) (omega arith)
 
   -- no record yet: all is taken
-  part-fed : FeedSays (walker 0 0 Kind.First Kept.Open 0) h front (reply Answer.More 4) (walker 4 4 Kind.First Kept.Open 0) (front ++ drop 4 h)
+  part-fed : FeedSays (walker 0 0 Kind.First None 0) h front (reply Answer.More 4) (walker 4 4 Kind.First None 0) (front ++ drop 4 h)
   unfolding walk_computing taken any_above
-  part-fed = feed-says (walker 0 0 Kind.First Kept.Open 0) h full (omega arith) (omega arith) (omega arith) refl refl front (omega arith)
+  part-fed = feed-says (walker 0 0 Kind.First None 0) h full (omega arith) (omega arith) (omega arith) refl refl front (omega arith)
 
 -- ---- a walker that holds bytes from 100 on; h stands behind them in the hold
 
 module _ (h : List ℕ) (full : 32768 ≤ length h) where
-  rest-fed : FeedSays (walker 4 104 Kind.Sha1 Kept.Open 0) (front ++ h) (rest ++ (7 ∷ 8 ∷ []))
-      (reply (Answer.Record (slot_at 100 108 132 0)) 32) (walker 0 136 Kind.Sha1 Kept.Open 1) (front ++ rest ++ drop 32 h)
+  rest-fed : FeedSays (walker 4 104 Kind.Sha1 None 0) (front ++ h) (rest ++ (7 ∷ 8 ∷ []))
+      (reply (Answer.Record (slot_at 100 108 132 0)) 32) (walker 0 136 Kind.Sha1 None 1) (front ++ rest ++ drop 32 h)
   unfolding walk_computing taken any_above
-  rest-fed = feed-says (walker 4 104 Kind.Sha1 Kept.Open 0) (front ++ h) (omega (arith, full)) (omega arith) (omega arith) (omega arith) refl refl (rest ++ (7 ∷ 8 ∷ [])) (omega arith)
+  rest-fed = feed-says (walker 4 104 Kind.Sha1 None 0) (front ++ h) (omega (arith, full)) (omega arith) (omega arith) (omega arith) refl refl (rest ++ (7 ∷ 8 ∷ [])) (omega arith)
 
   -- held bytes that are a record already, and two more: 0 is taken, at a feed and at a close
-  held-record-fed : FeedSays (walker 38 138 Kind.Sha1 Kept.Open 0) (front ++ rest ++ (7 ∷ 8 ∷ h)) (9 ∷ [])
-      (reply (Answer.Record (slot_at 100 108 132 0)) 0) (walker 0 138 Kind.Sha1 Kept.Open 1) (front ++ rest ++ (7 ∷ 8 ∷ h))
+  held-record-fed : FeedSays (walker 38 138 Kind.Sha1 None 0) (front ++ rest ++ (7 ∷ 8 ∷ h)) (9 ∷ [])
+      (reply (Answer.Record (slot_at 100 108 132 0)) 0) (walker 0 138 Kind.Sha1 None 1) (front ++ rest ++ (7 ∷ 8 ∷ h))
   unfolding walk_computing taken any_above
-  held-record-fed = feed-says (walker 38 138 Kind.Sha1 Kept.Open 0) (front ++ rest ++ (7 ∷ 8 ∷ h)) (omega (arith, full)) (omega arith) (omega arith) (omega arith) refl refl (9 ∷ []) (omega arith)
+  held-record-fed = feed-says (walker 38 138 Kind.Sha1 None 0) (front ++ rest ++ (7 ∷ 8 ∷ h)) (omega (arith, full)) (omega arith) (omega arith) (omega arith) refl refl (9 ∷ []) (omega arith)
 
-  held-record-closed : CloseSays (walker 38 138 Kind.Sha1 Kept.Open 0) (front ++ rest ++ (7 ∷ 8 ∷ h))
-      (reply (Answer.Record (slot_at 100 108 132 0)) 0) (walker 0 138 Kind.Sha1 Kept.Open 1)
+  held-record-closed : CloseSays (walker 38 138 Kind.Sha1 None 0) (front ++ rest ++ (7 ∷ 8 ∷ h))
+      (reply (Answer.Record (slot_at 100 108 132 0)) 0) (walker 0 138 Kind.Sha1 None 1)
   unfolding walk_computing any_above
-  held-record-closed = close-says (walker 38 138 Kind.Sha1 Kept.Open 0) (front ++ rest ++ (7 ∷ 8 ∷ h)) (omega (arith, full)) (omega arith) (omega arith) (omega arith) refl refl
+  held-record-closed = close-says (walker 38 138 Kind.Sha1 None 0) (front ++ rest ++ (7 ∷ 8 ∷ h)) (omega (arith, full)) (omega arith) (omega arith) (omega arith) refl refl
 
-  held-refusal-closed : CloseSays (walker 33 133 Kind.Sha1 Kept.Open 0) (far ++ (7 ∷ h))
-      (reply (Answer.Stop (refused_with Why.FieldTooFar 132)) 0) (walker 33 133 Kind.Sha1 (Kept.Stopped (refused_with Why.FieldTooFar 132)) 0)
+  held-refusal-closed : CloseSays (walker 33 133 Kind.Sha1 None 0) (far ++ (7 ∷ h))
+      (reply (Answer.Stop (refused_with Why.FieldTooFar 132)) 0) (walker 33 133 Kind.Sha1 (Some (refused_with Why.FieldTooFar 132)) 0)
   unfolding walk_computing any_above
-  held-refusal-closed = close-says (walker 33 133 Kind.Sha1 Kept.Open 0) (far ++ (7 ∷ h)) (omega (arith, full)) (omega arith) (omega arith) (omega arith) refl refl
+  held-refusal-closed = close-says (walker 33 133 Kind.Sha1 None 0) (far ++ (7 ∷ h)) (omega (arith, full)) (omega arith) (omega arith) (omega arith) refl refl
 
   -- three bytes are the tail; of four the second field is cut
-  tail-closed : CloseSays (walker 3 103 Kind.Sha1 Kept.Open 0) (0 ∷ 0 ∷ 0 ∷ h)
-      (reply (Answer.Stop (Ending.End 100 3)) 0) (walker 3 103 Kind.Sha1 (Kept.Stopped (Ending.End 100 3)) 0)
+  tail-closed : CloseSays (walker 3 103 Kind.Sha1 None 0) (0 ∷ 0 ∷ 0 ∷ h)
+      (reply (Answer.Stop (Ending.End 100 3)) 0) (walker 3 103 Kind.Sha1 (Some (Ending.End 100 3)) 0)
   unfolding walk_computing any_above
-  tail-closed = close-says (walker 3 103 Kind.Sha1 Kept.Open 0) (0 ∷ 0 ∷ 0 ∷ h) (omega (arith, full)) (omega arith) (omega arith) (omega arith) refl refl
+  tail-closed = close-says (walker 3 103 Kind.Sha1 None 0) (0 ∷ 0 ∷ 0 ∷ h) (omega (arith, full)) (omega arith) (omega arith) (omega arith) refl refl
 
-  cut-closed : CloseSays (walker 4 104 Kind.Sha1 Kept.Open 0) (front ++ h)
-      (reply (Answer.Stop (refused_with Why.FieldCut 104)) 0) (walker 4 104 Kind.Sha1 (Kept.Stopped (refused_with Why.FieldCut 104)) 0)
+  cut-closed : CloseSays (walker 4 104 Kind.Sha1 None 0) (front ++ h)
+      (reply (Answer.Stop (refused_with Why.FieldCut 104)) 0) (walker 4 104 Kind.Sha1 (Some (refused_with Why.FieldCut 104)) 0)
   unfolding walk_computing any_above
-  cut-closed = close-says (walker 4 104 Kind.Sha1 Kept.Open 0) (front ++ h) (omega (arith, full)) (omega arith) (omega arith) (omega arith) refl refl
+  cut-closed = close-says (walker 4 104 Kind.Sha1 None 0) (front ++ h) (omega (arith, full)) (omega arith) (omega arith) (omega arith) refl refl
 
   -- A made-up walker whose count equals the total: held bytes that are a record give it, with 0 taken, and the count passes the total. It stands:
-  count-passes : FeedSays (walker 38 138 Kind.Sha1 Kept.Open 138) (front ++ rest ++ (7 ∷ 8 ∷ h)) (9 ∷ [])
-      (reply (Answer.Record (slot_at 100 108 132 138)) 0) (walker 0 138 Kind.Sha1 Kept.Open 139) (front ++ rest ++ (7 ∷ 8 ∷ h))
+  count-passes : FeedSays (walker 38 138 Kind.Sha1 None 138) (front ++ rest ++ (7 ∷ 8 ∷ h)) (9 ∷ [])
+      (reply (Answer.Record (slot_at 100 108 132 138)) 0) (walker 0 138 Kind.Sha1 None 139) (front ++ rest ++ (7 ∷ 8 ∷ h))
   unfolding walk_computing taken any_above
-  count-passes = feed-says (walker 38 138 Kind.Sha1 Kept.Open 138) (front ++ rest ++ (7 ∷ 8 ∷ h)) (omega (arith, full)) (omega arith) (omega arith) (omega arith) refl refl (9 ∷ []) (omega arith)
+  count-passes = feed-says (walker 38 138 Kind.Sha1 None 138) (front ++ rest ++ (7 ∷ 8 ∷ h)) (omega (arith, full)) (omega arith) (omega arith) (omega arith) refl refl (9 ∷ []) (omega arith)
 
   -- the next call is 14.
-  then-out-of-range : (piece : List ℕ) → FeedSays (walker 0 138 Kind.Sha1 Kept.Open 139) h piece
-      (reply (Answer.Stop (refused_with Why.OutOfRange 0)) 0) (walker 0 138 Kind.Sha1 Kept.Open 139) h
+  then-out-of-range : (piece : List ℕ) → FeedSays (walker 0 138 Kind.Sha1 None 139) h piece
+      (reply (Answer.Stop (refused_with Why.OutOfRange 0)) 0) (walker 0 138 Kind.Sha1 None 139) h
   then-out-of-range piece =
-      let e = sym (feed-14 (walker 0 138 Kind.Sha1 Kept.Open 139) h piece (λ r. omega (arith, r.counts 0))) in
+      let e = sym (feed-14 (walker 0 138 Kind.Sha1 None 139) h piece (λ r. omega (arith, r.counts 0))) in
       (ap reply_by e, ap (λ o. walker_by o.walker) e, ap (λ o. o.hold) e)
 
 -- ---- a made-up walker whose table has an id twice, at 100 of the log: the last size counts
@@ -176,7 +176,7 @@ doubled_walker total n =
       held = 0;
       total = total;
       shape = shape_of Kind.Agile (table_with doubled);
-      kept = Kept.Open;
+      kept = None;
       counts = set none_yet.counts 0 n;
       tallies = set none_yet.tallies 1 n;
     }

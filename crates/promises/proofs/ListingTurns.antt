@@ -8,10 +8,10 @@ use Prim.Native.Nat.{ℕ, suc}
 use mathlib.Core.Path.{◌≡◌, refl, sym, ap, ◌∙◌}
 use mathlib.Core.List.{List, [], ◌++◌, append_assoc, append-nil}
 use Rattle.pieces.specs.Walk.{Told}
+use Rattle.record.specs.declared.Cursor.{Cursor}
 use Rattle.record.specs.declared.Slot.{Slot}
 use Rattle.record.specs.declared.Turn.{Turn}
 use Rattle.standing.specs.Standing.{Standing, none_yet}
-use Rattle.walk.specs.declared.Cursor.{Cursor}
 use Rattle.walk.specs.Turn.{opening_cursor, Moved, turn_of}
 use Rattle.walk.proofs.TurnLaws.{tells}
 use Rattle.walk.proofs.FillLaws.{rest_from, rest-opens, rest-turn, whole-numbered}

@@ -7,6 +7,7 @@
 --   writes_one, -some       a line of the listing, written to a lent buffer
 --   write-one, -some        a record, written to a lent buffer
 -- Assumes nothing.
+use Rattle.std.specs.Prelude.{Option}
 use Prim.Native.Nat.{ℕ}
 use mathlib.Core.Path.{◌≡◌, refl, sym, ap, ◌∙◌}
 use mathlib.Core.List.{List, ◌++◌}
@@ -22,7 +23,6 @@ use Rattle.by_value.proofs.TableLaws.{table-says}
 use Rattle.walker.specs.declared.Reply.{Reply}
 use Rattle.walker.specs.declared.Walker.{Walker}
 use Rattle.walker.specs.Walker.{reply_by, walker_by, feed_to, close_to, FeedSays, CloseSays}
-use Rattle.buffer.specs.declared.Written.{Written}
 use Rattle.buffer.specs.Writes.{put_end, put_at, Puts, written_by, buffer_by, Writes}
 use Rattle.write.specs.declared.Wrote.{Wrote}
 use Rattle.write.specs.Write.{Entry, record_bytes, fault_of, is_clear, wrote_by, Given, WriteSays}
@@ -67,7 +67,7 @@ puts_one text at old r r' new new' a b = (a.ends ∙ sym b.ends, a.holds ∙ sym
 pub puts-some : (text : List ℕ) (at : ℕ) (old : List ℕ) → Puts text at old (put_end text at old) (put_at text at old)
 puts-some text at old = record { ends = refl; holds = refl }
 
-pub writes_one : (text old : List ℕ) (r r' : Written) (new new' : List ℕ) → Writes text old r new → Writes text old r' new' → (r ≡ r') × (new ≡ new')
+pub writes_one : (text old : List ℕ) (r r' : Option ℕ) (new new' : List ℕ) → Writes text old r new → Writes text old r' new' → (r ≡ r') × (new ≡ new')
 writes_one text old r r' new new' a b = (a.0 ∙ sym b.0, a.1 ∙ sym b.1)
 
 pub writes-some : (text old : List ℕ)

@@ -4,11 +4,11 @@
 --   close-own   `OfClose`: a close gives a record or the end, or refuses with 2 to 11 or 14; it never wants more
 --   feed-never, close_never   what these leave out, by name
 -- Assumes nothing.
+use Rattle.std.specs.Prelude.{None}
 use Prim.Native.Nat.{ℕ, zero, suc, ◌+◌}
 use mathlib.Core.Path.{◌≡◌, refl, ap}
 use mathlib.Core.Logic.{◌⊎◌, inl, inr, ⊎_elim}
 use mathlib.Core.List.{List}
-use mathlib.Core.Option.{none}
 use lib.ListN.{length}
 use Rattle.numbers.proofs.ByCases.{split, test, never}
 use Rattle.refusal.specs.declared.Ending.{Ending}
@@ -28,10 +28,9 @@ use Rattle.standing.specs.Standing.{Standing, counted_judge}
 use Rattle.standing.proofs.CountedLaws.{counted-why}
 use Rattle.record.specs.Met.{OfRecord}
 use Rattle.walker.specs.declared.Answer.{Answer}
-use Rattle.walker.specs.declared.Kept.{Kept}
 use Rattle.walker.specs.declared.Reply.{Reply}
 use Rattle.walker.specs.declared.Walker.{Walker}
-use Rattle.walker.specs.Walker.{kept_of, walker_of, answer_by, wrong, feed_to, close_to, FeedSays, CloseSays}
+use Rattle.walker.specs.Walker.{walker_of, answer_by, wrong, feed_to, close_to, FeedSays, CloseSays}
 use Rattle.promises.specs.Answers.{OfFeed, OfClose}
 
 abbrev answered : Outcome (F.Walker (With Shape Standing)) Slot → Answer
@@ -53,7 +52,7 @@ module _ (w : F.Walker (With Shape Standing)) (hold : List ℕ) where
   closed-own p (sound slot m next) h = tt
   closed-own p (refused r) h = inl (h r refl)
 
-  module _ (k : w.kept ≡ none) where
+  module _ (k : w.kept ≡ None) where
     feeds : (piece : List ℕ) → OfFeed (answered (feed_of counted_judge hold_full log_most wrong w hold piece))
     feeds piece = test (out_of_range counted_judge hold_full log_most wrong w hold)
         (λ out. rw (feed-out counted_judge hold_full log_most wrong w hold piece out) (inr refl))
@@ -68,14 +67,14 @@ module _ (w : F.Walker (With Shape Standing)) (hold : List ℕ) where
         (λ passed. rw (close_passed counted_judge hold_full log_most wrong w hold (passed-range counted_judge hold_full log_most wrong w hold passed) k)
         (closed-own _ _ (counted-why _ _ _)))
 
-pub feed-own : (w : Walker) (hold piece : List ℕ) (reply : Reply) (w' : Walker) (hold' : List ℕ) → FeedSays w hold piece reply w' hold' → w.kept ≡ Kept.Open
+pub feed-own : (w : Walker) (hold piece : List ℕ) (reply : Reply) (w' : Walker) (hold' : List ℕ) → FeedSays w hold piece reply w' hold' → w.kept ≡ None
     → OfFeed reply.answer
 unfolding feed_to
-feed-own w hold piece reply w' hold' says k = rw says.0 (feeds (walker_of w) hold (ap kept_of k) piece)
+feed-own w hold piece reply w' hold' says k = rw says.0 (feeds (walker_of w) hold k piece)
 
-pub close-own : (w : Walker) (hold : List ℕ) (reply : Reply) (w' : Walker) → CloseSays w hold reply w' → w.kept ≡ Kept.Open → OfClose reply.answer
+pub close-own : (w : Walker) (hold : List ℕ) (reply : Reply) (w' : Walker) → CloseSays w hold reply w' → w.kept ≡ None → OfClose reply.answer
 unfolding close_to
-close-own w hold reply w' says k = rw says.0 (closes (walker_of w) hold (ap kept_of k))
+close-own w hold reply w' says k = rw says.0 (closes (walker_of w) hold k)
 
 -- ---- what that leaves out, by name
 

@@ -6,6 +6,7 @@
 --   feed-13                  else a piece that would carry the total past 65,536 is refused with 13 at the total, and nothing changes
 --   feed-open, close_open    else neither is said
 -- Assumes nothing.
+use Rattle.std.specs.Prelude.{Some, None}
 use Prim.Native.Nat.{ℕ, zero, suc, ◌+◌, ◌≤◌, ◌<◌}
 use mathlib.Core.Path.{◌≡◌, refl, sym, ap}
 use mathlib.Core.Bool.{true}
@@ -30,9 +31,8 @@ use Rattle.record.specs.declared.Slot.{Slot}
 use Rattle.standing.specs.Standing.{Standing, any_above, over_total, counted_judge}
 use Rattle.standing.proofs.StandingLaws.{neither, above-each, above-none}
 use Rattle.standing.proofs.CountedLaws.{counted-why}
-use Rattle.walker.specs.declared.Kept.{Kept}
 use Rattle.walker.specs.declared.Walker.{Walker}
-use Rattle.walker.specs.Walker.{kept_of, stand_of, walker_of, wrong, out_of_range, feed_to, close_to}
+use Rattle.walker.specs.Walker.{stand_of, walker_of, wrong, out_of_range, feed_to, close_to}
 
 pub record Ranged (w : Walker) (hold : List ℕ) : Type 0 where
   pub full : 32768 ≤ length hold
@@ -119,26 +119,26 @@ module _ (w : Walker) (hold : List ℕ) where
   close-14 bad = L.close-out counted_judge hold_full log_most wrong (walker_of w) hold (out bad)
 
   module _ (r : Ranged w hold) where
-    pub feed-kept : (piece : List ℕ) (e : Ending) → w.kept ≡ Kept.Stopped e → Still w hold e (feed_to w hold piece)
+    pub feed-kept : (piece : List ℕ) (e : Ending) → w.kept ≡ Some e → Still w hold e (feed_to w hold piece)
     unfolding feed_to
-    feed-kept piece e k = L.feed-kept counted_judge hold_full log_most wrong (walker_of w) hold (in_range r) piece e (ap kept_of k)
+    feed-kept piece e k = L.feed-kept counted_judge hold_full log_most wrong (walker_of w) hold (in_range r) piece e k
 
-    pub close-kept : (e : Ending) → w.kept ≡ Kept.Stopped e → Still w hold e (close_to w hold)
+    pub close-kept : (e : Ending) → w.kept ≡ Some e → Still w hold e (close_to w hold)
     unfolding close_to
-    close-kept e k = L.close-kept counted_judge hold_full log_most wrong (walker_of w) hold (in_range r) e (ap kept_of k)
+    close-kept e k = L.close-kept counted_judge hold_full log_most wrong (walker_of w) hold (in_range r) e k
 
-    pub feed-13 : (piece : List ℕ) → w.kept ≡ Kept.Open → 65536 < w.total + length piece
+    pub feed-13 : (piece : List ℕ) → w.kept ≡ None → 65536 < w.total + length piece
         → Still w hold (refusal Why.TotalTooLong w.total) (feed_to w hold piece)
     unfolding feed_to
-    feed-13 piece k l = L.feed-long counted_judge hold_full log_most wrong (walker_of w) hold (in_range r) piece (ap kept_of k) l
+    feed-13 piece k l = L.feed-long counted_judge hold_full log_most wrong (walker_of w) hold (in_range r) piece k l
 
-    pub feed-open : (piece : List ℕ) → w.kept ≡ Kept.Open → w.total + length piece ≤ 65536
+    pub feed-open : (piece : List ℕ) → w.kept ≡ None → w.total + length piece ≤ 65536
         → (why : Why) (at : ℕ) → (feed_to w hold piece).answer ≡ stops (refusal why at) → Other why
     unfolding feed_to
     feed-open piece k l why at =
-        rw (L.feed-passed counted_judge hold_full log_most wrong (walker_of w) hold (in_range r) piece (ap kept_of k) l) (fed-other (walker_of w) _ _ _ (judged _ _ _) why at)
+        rw (L.feed-passed counted_judge hold_full log_most wrong (walker_of w) hold (in_range r) piece k l) (fed-other (walker_of w) _ _ _ (judged _ _ _) why at)
 
-    pub close_open : w.kept ≡ Kept.Open → (why : Why) (at : ℕ) → (close_to w hold).answer ≡ stops (refusal why at) → Other why
+    pub close_open : w.kept ≡ None → (why : Why) (at : ℕ) → (close_to w hold).answer ≡ stops (refusal why at) → Other why
     unfolding close_to
     close_open k why at =
-        rw (L.close_passed counted_judge hold_full log_most wrong (walker_of w) hold (in_range r) (ap kept_of k)) (closed-other (walker_of w) hold _ _ (judged _ _ _) why at)
+        rw (L.close_passed counted_judge hold_full log_most wrong (walker_of w) hold (in_range r) k) (closed-other (walker_of w) hold _ _ (judged _ _ _) why at)

@@ -3,6 +3,7 @@
 --                            past them
 --   gpt-read, gpt-past       `gpt::read` on the slot's data gives an entry exactly for the indexes below its entry count, and nothing past them
 -- `read_of` of `path` and of `gpt` are the promises of the readers. Assumes nothing.
+use Rattle.std.specs.Prelude.{Some, None, Ok}
 use Prim.Native.Nat.{ℕ, suc, ◌+◌, ◌≤◌, ◌<◌}
 use mathlib.Core.Path.{◌≡◌, sym, ap, subst, ◌∙◌}
 use mathlib.Core.Bool.{Bool, true, false}
@@ -20,15 +21,12 @@ use Rattle.numbers.proofs.RangeLaws.{part-front}
 use Rattle.refusal.specs.Limits.{log_most}
 use Rattle.event.specs.Types.{type_of}
 use Rattle.path.specs.declared.NodeFields.{NodeFields}
-use Rattle.path.specs.declared.FoundNode.{FoundNode}
 use Rattle.path.specs.Path.{read_of as node_read}
 use Rattle.gpt.specs.declared.Header.{Header}
 use Rattle.gpt.specs.declared.Entry.{Entry}
-use Rattle.gpt.specs.declared.FoundEntry.{FoundEntry}
 use Rattle.gpt.specs.Gpt.{read_of as entry_read}
 use Rattle.contents.specs.declared.Contents.{Contents}
 use Rattle.contents.specs.declared.ImageFields.{ImageFields}
-use Rattle.contents.specs.declared.Judged.{Judged}
 use Rattle.contents.specs.Contents.{contents_of}
 use Rattle.contents.proofs.HoldsLaws.{contents-holds}
 use Rattle.contents.proofs.ReaderLaws.{image-nodes, image-nothing, gpt-entries, gpt-nothing}
@@ -73,11 +71,11 @@ module _ (log front x rest : List ℕ) (is : Bytes log) (whole : log ≡ front +
       part-front log w.body rest place (ap (drop place) all ∙ drop_at head (w.body ++ rest) place size)
 
   record-contents : Plain slot.contents
-      → contents_of (type_of slot.event) (part_of log slot.«data».at slot.«data».len) slot.«data».at ≡ Judged.Sound slot.contents
+      → contents_of (type_of slot.event) (part_of log slot.«data».at slot.«data».len) slot.«data».at ≡ Ok slot.contents
   record-contents = rw lies.told (λ p. go (is_marker sh.kind lies.whole.event) lies.holds p)
     where
       go : (b : Bool) → ContainsAs b sh lies.whole.event lies.whole.body place lies.contents after → Plain lies.contents
-          → contents_of (type_of lies.whole.event) (part_of log place (length lies.whole.body)) place ≡ Judged.Sound lies.contents
+          → contents_of (type_of lies.whole.event) (part_of log place (length lies.whole.body)) place ≡ Ok lies.contents
       go true (pairs, m, n) p = absurd (rw m.fields at p)
       go false (h, n) p = rw body-part ((contents-holds (type_of lies.whole.event) lies.whole.body (rw body-part at (bytes-part log place (length lies.whole.body) is)) place lies.contents).1 h)
 
@@ -118,7 +116,7 @@ module _ (log : List ℕ) (old : List Slot) (r : Walked) (slots : List Slot) (sa
   split_at = sym (take-append-drop k bares) ∙ ap (λ l. take k bares ++ l) (drop-cons bares k blank many-bare)
 
   abbrev Contained : Slot → Type 0
-  Contained s = Plain s.contents → contents_of (type_of s.event) (part_of log s.«data».at s.«data».len) s.«data».at ≡ Judged.Sound s.contents
+  Contained s = Plain s.contents → contents_of (type_of s.event) (part_of log s.«data».at s.«data».len) s.«data».at ≡ Ok s.contents
 
   bare-contents : Contained bare
   bare-contents = split (length log) log_most short long
@@ -141,13 +139,13 @@ module _ (log : List ℕ) (old : List Slot) (r : Walked) (slots : List Slot) (sa
   -- ---- an image
 
   module _ (f : ImageFields) (c : slot.contents ≡ Contents.Image f) where
-    image-so : contents_of (type_of slot.event) (part_of log slot.«data».at slot.«data».len) slot.«data».at ≡ Judged.Sound (Contents.Image f)
-    image-so = slot-contents (rw c tt) ∙ ap Judged.Sound c
+    image-so : contents_of (type_of slot.event) (part_of log slot.«data».at slot.«data».len) slot.«data».at ≡ Ok (Contents.Image f)
+    image-so = slot-contents (rw c tt) ∙ ap Ok c
 
-    pub image-read : (i : ℕ) → ((m : NodeFields) × (node_read (part_of log f.path.at f.path.len) i ≡ FoundNode.Node m)) ↔ (i < f.nodes)
+    pub image-read : (i : ℕ) → ((m : NodeFields) × (node_read (part_of log f.path.at f.path.len) i ≡ Ok (Some m))) ↔ (i < f.nodes)
     image-read = image-nodes (type_of slot.event) log says.2 slot.«data».at slot.«data».len f image-so
 
-    pub image-past : (i : ℕ) → f.nodes ≤ i → node_read (part_of log f.path.at f.path.len) i ≡ FoundNode.Nothing
+    pub image-past : (i : ℕ) → f.nodes ≤ i → node_read (part_of log f.path.at f.path.len) i ≡ Ok None
     image-past = image-nothing (type_of slot.event) log says.2 slot.«data».at slot.«data».len f image-so
 
   -- ---- GPT data
@@ -156,11 +154,11 @@ module _ (log : List ℕ) (old : List Slot) (r : Walked) (slots : List Slot) (sa
     abbrev body : List ℕ
     body = part_of log slot.«data».at slot.«data».len
 
-    gpt-so : contents_of (type_of slot.event) body slot.«data».at ≡ Judged.Sound (Contents.Gpt h)
-    gpt-so = slot-contents (rw c tt) ∙ ap Judged.Sound c
+    gpt-so : contents_of (type_of slot.event) body slot.«data».at ≡ Ok (Contents.Gpt h)
+    gpt-so = slot-contents (rw c tt) ∙ ap Ok c
 
-    pub gpt-read : (i : ℕ) → ((m : Entry) × (entry_read body i ≡ FoundEntry.Entry m)) ↔ (i < h.entries)
+    pub gpt-read : (i : ℕ) → ((m : Entry) × (entry_read body i ≡ Ok (Some m))) ↔ (i < h.entries)
     gpt-read = gpt-entries (type_of slot.event) body (bytes-part log slot.«data».at slot.«data».len says.2) slot.«data».at h gpt-so
 
-    pub gpt-past : (i : ℕ) → h.entries ≤ i → entry_read body i ≡ FoundEntry.Nothing
+    pub gpt-past : (i : ℕ) → h.entries ≤ i → entry_read body i ≡ Ok None
     gpt-past = gpt-nothing (type_of slot.event) body (bytes-part log slot.«data».at slot.«data».len says.2) slot.«data».at h gpt-so

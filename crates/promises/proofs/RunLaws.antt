@@ -4,9 +4,9 @@
 --   order-run                     feeding pieces in order is a run
 --   calls_by, order-by             what feeds pieces in order in `pieces` does so in the code
 -- Assumes nothing.
+use Rattle.std.specs.Prelude.{Option}
 use Prim.Native.Nat.{ℕ, ◌≤◌}
 use mathlib.Core.Path.{◌≡◌, refl, sym, ap, ◌∙◌}
-use mathlib.Core.Option.{Option, none, some}
 use mathlib.Core.List.{List}
 use lib.ListN.{length}
 use Rattle.refusal.specs.declared.Ending.{Ending}
@@ -25,7 +25,7 @@ use Rattle.standing.specs.Standing.{Standing, counted_judge}
 use Rattle.walker.specs.declared.Answer.{Answer}
 use Rattle.walker.specs.declared.Reply.{Reply}
 use Rattle.walker.specs.declared.Walker.{Walker}
-use Rattle.walker.specs.Walker.{kept_of, kept_by, walker_of, walker_by, answer_by, reply_by, wrong, feed_to, close_to}
+use Rattle.walker.specs.Walker.{walker_of, walker_by, answer_by, reply_by, wrong, feed_to, close_to}
 use Rattle.promises.specs.Runs.{Feeds, Closes, Call, Run, InOrder, calls_of}
 
 -- ---- there and back
@@ -40,12 +40,8 @@ answer_back (gives slot) = refl
 answer_back (stops e) = refl
 answer_back wants = refl
 
-kept_back : (k : Option Ending) → kept_of (kept_by k) ≡ k
-kept_back none = refl
-kept_back (some e) = refl
-
 walker-back : (w : F.Walker (With Shape Standing)) → walker_of (walker_by w) ≡ w
-walker-back w = ap (λ k. record { shape = w.shape; held = w.held; total = w.total; kept = k }) (kept_back w.kept)
+walker-back w = refl
 
 -- ---- one call
 

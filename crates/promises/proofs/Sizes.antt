@@ -7,18 +7,17 @@
 --   agree-calls   of the walker's after any calls from a fresh walker, of any pieces and over any holds
 --   agree-run     so of the walker's after any call of any run, whatever it answered
 -- Assumes nothing.
+use Rattle.std.specs.Prelude.{Some, Option, None}
 use Prim.Native.Nat.{ℕ, ◌+◌, ◌-◌}
 use mathlib.Core.Path.{◌≡◌, refl}
 use mathlib.Core.Bool.{Bool, true, false}
 use mathlib.Core.List.{List, [], ◌∷◌, ◌++◌}
-use mathlib.Core.Option.{Option, none as never, some}
 use lib.Dec.{ltb}
 use lib.ListN.{length, take, drop}
 use lib.Seq.{paste}
 use Rattle.refusal.specs.declared.Ending.{Ending}
 use Rattle.refusal.specs.Limits.{log_most, hold_full}
 use Rattle.spec_id.specs.declared.Pairs.{Pairs}
-use Rattle.spec_id.specs.declared.Size.{Size}
 use Rattle.spec_id.specs.SpecId.{own_size}
 use Rattle.spec_id.specs.Sizes.{size_of}
 use Rattle.spec_id.specs.Regular.{Regular, first_size_of}
@@ -30,6 +29,7 @@ use Rattle.pieces.specs.Taken.{taken}
 use Rattle.pieces.specs.Feed.{Outcome, fed, closed, tested, feed_of, close_of}
 use Rattle.pieces.specs.Feed as F
 use Rattle.pieces.specs.Run.{fed_call, close_call, outcome_of, Calls, feeds, closes}
+use Rattle.record.specs.declared.Cursor.{Cursor}
 use Rattle.record.specs.declared.Shape.{Shape}
 use Rattle.record.specs.declared.Slot.{Slot}
 use Rattle.record.specs.Record.{opening_shape, is_marker}
@@ -37,18 +37,17 @@ use Rattle.record.specs.Whole.{data_at, ContainsAs, Lies}
 use Rattle.record.proofs.RecordLaws.{record-placed, placed-keeps}
 use Rattle.standing.specs.Standing.{Standing, standing_by, counted_judge}
 use Rattle.standing.proofs.CountedLaws.{counted-sound}
-use Rattle.walk.specs.declared.Cursor.{Cursor}
 use Rattle.walk.specs.Turn.{stand_at, moved_of, turn_by, turn_of}
 use Rattle.walk.specs.Divides.{Chain, none, next, Begins}
 use Rattle.walker.specs.declared.Walker.{Walker}
-use Rattle.walker.specs.Walker.{kept_of, stand_of, walker_of, fresh_walker, out_of_range, feed_to, close_to}
+use Rattle.walker.specs.Walker.{stand_of, walker_of, fresh_walker, out_of_range, feed_to, close_to}
 use Rattle.promises.specs.Runs.{Feeds, Closes, Call, held_by, Run, Called, opened, after_feed, after_close}
 use Rattle.promises.specs.Turns.{Reached, opens, turns}
 
 pub record Agree (t : Pairs) : Type 0 where
   pub regular : Regular t
   pub first : (id : ℕ) → size_of t id ≡ first_size_of t id
-  pub own : (id n : ℕ) → size_of t id ≡ Size.Bytes n → own_size id ≡ Size.Bytes n
+  pub own : (id n : ℕ) → size_of t id ≡ Some n → own_size id ≡ Some n
 
 agree : (t : Pairs) → Regular t → Agree t
 agree t r = record { regular = r; first = regular-first t r; own = regular-own t r }
@@ -124,9 +123,9 @@ module _ (w : F.Walker (With Shape Standing)) (hold : List ℕ) (r : Regular w.s
   tested-regular : (out : Bool) (kept : Option Ending) (long : Bool) (go : Unit {0} → Outcome (F.Walker (With Shape Standing)) Slot) → LeavesRegular (go tt)
       → LeavesRegular (tested out kept long w hold go)
   tested-regular true kept long go g = r
-  tested-regular false (some e) long go g = r
-  tested-regular false never true go g = r
-  tested-regular false never false go g = g
+  tested-regular false (Some e) long go g = r
+  tested-regular false None true go g = r
+  tested-regular false None false go g = g
 
 feed-regular : (w : Walker) (hold piece : List ℕ) → Regular w.shape.pairs → LeavesRegular (feed_to w hold piece)
 unfolding feed_to feed_of
@@ -136,7 +135,7 @@ feed-regular w hold piece r =
     let bytes = take w.held hold ++ take n piece in
     let v = counted_judge (stand_of w) at bytes in
     let then = paste hold w.held piece n in
-    tested-regular (walker_of w) hold r (out_of_range w hold) (kept_of w.kept) (ltb log_most (w.total + length piece)) (λ _. fed (walker_of w) then n v)
+    tested-regular (walker_of w) hold r (out_of_range w hold) w.kept (ltb log_most (w.total + length piece)) (λ _. fed (walker_of w) then n v)
     (fed-regular (walker_of w) then r n v at bytes refl)
 
 close-regular : (w : Walker) (hold : List ℕ) → Regular w.shape.pairs → LeavesRegular (close_to w hold)
@@ -145,7 +144,7 @@ close-regular w hold r =
     let at = w.total - w.held in
     let bytes = take w.held hold in
     let v = counted_judge (stand_of w) at bytes in
-    tested-regular (walker_of w) hold r (out_of_range w hold) (kept_of w.kept) false (λ _. closed (walker_of w) hold bytes v)
+    tested-regular (walker_of w) hold r (out_of_range w hold) w.kept false (λ _. closed (walker_of w) hold bytes v)
     (closed-regular (walker_of w) hold r bytes v at bytes refl)
 
 called-regular : {w : Walker} → Called w → Regular w.shape.pairs
@@ -159,10 +158,10 @@ agree-calls w called = agree w.shape.pairs (called-regular called)
 -- the calls of a run are such calls
 run-called : {ended : Bool} {todo : List ℕ} {w : Walker} {last : List ℕ} (bs : List Call) (c : Call) (cs : List Call)
     → Calls hold_full held_by Feeds Closes ended todo w last (bs ++ (c ∷ cs)) → Called w → Called (outcome_of c).walker
-run-called [] (fed_call piece hold o) cs (feeds may lent says rest) called = after_feed hold piece o called says
-run-called [] (close_call hold o) cs (closes may lent says rest) called = after_close hold o called says
-run-called (fed_call piece hold o ∷ bs) c cs (feeds may lent says rest) called = run-called bs c cs rest (after_feed hold piece o called says)
-run-called (close_call hold o ∷ bs) c cs (closes may lent says rest) called = run-called bs c cs rest (after_close hold o called says)
+run-called [] (fed_call piece hold o) cs (feeds may lent says _) called = after_feed hold piece o called says
+run-called [] (close_call hold o) cs (closes may lent says _) called = after_close hold o called says
+run-called (fed_call piece hold o ∷ bs) c cs (feeds may lent says left) called = run-called bs c cs left (after_feed hold piece o called says)
+run-called (close_call hold o ∷ bs) c cs (closes may lent says left) called = run-called bs c cs left (after_close hold o called says)
 
 pub agree-run : (log last : List ℕ) (bs : List Call) (c : Call) (cs : List Call) → Run log fresh_walker last (bs ++ (c ∷ cs)) → Agree (outcome_of c).walker.shape.pairs
 agree-run log last bs c cs run = agree-calls (outcome_of c).walker (run-called bs c cs run opened)

@@ -6,6 +6,7 @@
 --   read-writes     the entries of an accepted log's slots: none is refused, and written in order, and then the tail, they are the log
 --   again           so of the bytes that any calls of the writer for them gave
 -- Assumes nothing.
+use Rattle.std.specs.Prelude.{Result, Ok, Err}
 use Prim.Native.Nat.{ℕ, suc, ◌+◌, ◌≤◌}
 use mathlib.Core.Path.{◌≡◌, refl, sym, ap, ap₂, subst, ◌∙◌}
 use mathlib.Core.List.{List, [], ◌∷◌, ◌++◌, append_assoc}
@@ -16,7 +17,6 @@ use Rattle.numbers.specs.Number.{Bytes}
 use Rattle.numbers.proofs.ByCases.{never}
 use Rattle.buffer.specs.Writes.{buffer_by}
 use Rattle.refusal.specs.declared.Ending.{Ending}
-use Rattle.refusal.specs.declared.Fault.{Fault}
 use Rattle.refusal.specs.declared.Refusal.{Refusal}
 use Rattle.refusal.specs.Limits.{log_most, tail_most}
 use Rattle.record.specs.declared.Shape.{Shape}
@@ -28,7 +28,6 @@ use Rattle.walk.specs.Divides.{Chain, none, next, Divides}
 use Rattle.standing.specs.Serials.{numbered}
 use Rattle.standing.proofs.SerialLaws.{numbered-length}
 use Rattle.walk.specs.Fill.{walked_of, FillSays}
-use Rattle.write.specs.declared.Answer.{Answer}
 use Rattle.write.specs.declared.Wrote.{Wrote}
 use Rattle.write.specs.Write.{Entry, record_bytes, entry_fault, fault_of, state_after, is_clear, wrote_by, WriteSays}
 use Rattle.write.specs.Faults.{Sound, Refuses}
@@ -44,54 +43,54 @@ use Rattle.promises.proofs.Acceptance.{accepted}
 
 module _ (sh : Shape) (e : Entry) (old : List ℕ) (r : Wrote) (new : List ℕ) (says : WriteSays sh e old r new) where
   -- EACH REFUSAL EXACTLY WHEN. A call is refused with this number at this place if and only if that is what is wrong with the entry or the buffer.
-  pub write-refused : (x : Refusal) → (r.answer ≡ Answer.Refused x) ↔ Refuses sh e (length old) x
+  pub write-refused : (x : Refusal) → (r.answer ≡ Err x) ↔ Refuses sh e (length old) x
   write-refused x = (
     λ a. (refused-exactly sh e (length old) x says.given).0 (to (fault_of sh e (length old)) says.answers a),
     λ h. ap (λ (w : Wrote). w.answer) says.answers ∙ rw ((refused-exactly sh e (length old) x says.given).1 h),
   )
     where
-      to : (f : Fault) → r ≡ wrote_by f sh e → r.answer ≡ Answer.Refused x → f ≡ Fault.Refused x
-      to Fault.Clear q a = let z = sym a ∙ ap (λ (w : Wrote). w.answer) q in never cc
-      to (Fault.Refused y) q a = let z = sym a ∙ ap (λ (w : Wrote). w.answer) q in let y-is : y ≡ x = cc in ap Fault.Refused y-is
+      to : (f : Result (Unit {0}) Refusal) → r ≡ wrote_by f sh e → r.answer ≡ Err x → f ≡ Err x
+      to (Ok tt) q a = let z = sym a ∙ ap (λ (w : Wrote). w.answer) q in never cc
+      to (Err y) q a = let z = sym a ∙ ap (λ (w : Wrote). w.answer) q in let y-is : y ≡ x = cc in ap Err y-is
 
   -- It is answered with n bytes if and only if nothing is wrong with the entry, n is the record's length, and the buffer is long enough.
-  pub write-wrote : (n : ℕ) → (r.answer ≡ Answer.Bytes n) ↔ (Sound sh e × (n ≡ length (record_bytes e)) × (n ≤ length old))
+  pub write-wrote : (n : ℕ) → (r.answer ≡ Ok n) ↔ (Sound sh e × (n ≡ length (record_bytes e)) × (n ≤ length old))
   write-wrote n = (λ a. to (fault_of sh e (length old)) refl says.answers a, from)
     where
-      to : (f : Fault) → fault_of sh e (length old) ≡ f → r ≡ wrote_by f sh e → r.answer ≡ Answer.Bytes n
+      to : (f : Result (Unit {0}) Refusal) → fault_of sh e (length old) ≡ f → r ≡ wrote_by f sh e → r.answer ≡ Ok n
           → Sound sh e × (n ≡ length (record_bytes e)) × (n ≤ length old)
-      to Fault.Clear f q a =
+      to (Ok tt) f q a =
           let z = sym a ∙ ap (λ (w : Wrote). w.answer) q in
           let m : n ≡ length (record_bytes e) = cc in
           let (s, room) = (fits-exactly sh e (length old) says.given).0 f in
           (s, m, rw m room)
-      to (Fault.Refused y) f q a = let z = sym a ∙ ap (λ (w : Wrote). w.answer) q in never cc
+      to (Err y) f q a = let z = sym a ∙ ap (λ (w : Wrote). w.answer) q in never cc
 
-      from : Sound sh e × (n ≡ length (record_bytes e)) × (n ≤ length old) → r.answer ≡ Answer.Bytes n
+      from : Sound sh e × (n ≡ length (record_bytes e)) × (n ≤ length old) → r.answer ≡ Ok n
       from (s, m, room) =
           ap (λ (w : Wrote). w.answer) says.answers
-          ∙ rw ((fits-exactly sh e (length old) says.given).1 (s, rw m at room)) (ap Answer.Bytes (sym m))
+          ∙ rw ((fits-exactly sh e (length old) says.given).1 (s, rw m at room)) (ap Ok (sym m))
 
   -- A refusal leaves the buffer and the state as they were.
-  pub untouched : (x : Refusal) → r.answer ≡ Answer.Refused x → (new ≡ old) × (r.state ≡ sh)
+  pub untouched : (x : Refusal) → r.answer ≡ Err x → (new ≡ old) × (r.state ≡ sh)
   untouched x a = go (fault_of sh e (length old)) says.answers says.holds
     where
-      go : (f : Fault) → r ≡ wrote_by f sh e → new ≡ buffer_by (is_clear f) (record_bytes e) old → (new ≡ old) × (r.state ≡ sh)
-      go Fault.Clear q b = let z = sym a ∙ ap (λ (w : Wrote). w.answer) q in never cc
-      go (Fault.Refused y) q b = (b, ap (λ (w : Wrote). w.state) q)
+      go : (f : Result (Unit {0}) Refusal) → r ≡ wrote_by f sh e → new ≡ buffer_by (is_clear f) (record_bytes e) old → (new ≡ old) × (r.state ≡ sh)
+      go (Ok tt) q b = let z = sym a ∙ ap (λ (w : Wrote). w.answer) q in never cc
+      go (Err y) q b = (b, ap (λ (w : Wrote). w.state) q)
 
   -- Success puts the record's bytes at the buffer's front, keeps the rest, and gives the state behind the record.
-  pub told-behind : (n : ℕ) → r.answer ≡ Answer.Bytes n
-      → (new ≡ record_bytes e ++ drop n old) × (r.state ≡ state_after sh e) × (entry_fault sh e ≡ Fault.Clear) × (n ≡ length (record_bytes e))
+  pub told-behind : (n : ℕ) → r.answer ≡ Ok n
+      → (new ≡ record_bytes e ++ drop n old) × (r.state ≡ state_after sh e) × (entry_fault sh e ≡ Ok tt) × (n ≡ length (record_bytes e))
   told-behind n a = go (fault_of sh e (length old)) refl says.answers says.holds
     where
-      go : (f : Fault) → fault_of sh e (length old) ≡ f → r ≡ wrote_by f sh e → new ≡ buffer_by (is_clear f) (record_bytes e) old
-          → (new ≡ record_bytes e ++ drop n old) × (r.state ≡ state_after sh e) × (entry_fault sh e ≡ Fault.Clear) × (n ≡ length (record_bytes e))
-      go Fault.Clear f q b =
+      go : (f : Result (Unit {0}) Refusal) → fault_of sh e (length old) ≡ f → r ≡ wrote_by f sh e → new ≡ buffer_by (is_clear f) (record_bytes e) old
+          → (new ≡ record_bytes e ++ drop n old) × (r.state ≡ state_after sh e) × (entry_fault sh e ≡ Ok tt) × (n ≡ length (record_bytes e))
+      go (Ok tt) f q b =
           let z = sym a ∙ ap (λ (w : Wrote). w.answer) q in
           let m : n ≡ length (record_bytes e) = cc in
           (b ∙ ap (λ k. record_bytes e ++ drop k old) (sym m), ap (λ (w : Wrote). w.state) q, (written-exactly sh e says.given).1 ((fits-exactly sh e (length old) says.given).0 f).0, m)
-      go (Fault.Refused y) f q b = let z = sym a ∙ ap (λ (w : Wrote). w.answer) q in never cc
+      go (Err y) f q b = let z = sym a ∙ ap (λ (w : Wrote). w.answer) q in never cc
 
 -- ---- chains
 

@@ -3,6 +3,7 @@
 --   by-18, by_4, by-16, by-3, by-17   each of the writer's own numbers
 --   by-contents                       whatever numbers contents may have
 -- Assumes nothing.
+use Rattle.std.specs.Prelude.{Err}
 use Prim.Native.Nat.{ℕ, ◌≤◌, ◌<◌}
 use mathlib.Core.Path.{◌≡◌, refl, sym, ap, ◌∙◌}
 use mathlib.Core.Bool.{Bool, true, false}
@@ -25,7 +26,6 @@ use Rattle.contents.proofs.WhyLaws.{contents-why, marker-why}
 use Rattle.record.specs.declared.Shape.{Shape}
 use Rattle.record.specs.Record.{is_marker}
 use Rattle.record.specs.Met.{FaultyAs}
-use Rattle.write.specs.declared.Answer.{Answer}
 use Rattle.write.specs.declared.Wrote.{Wrote}
 use Rattle.write.specs.Digests.{Digest, lent_of}
 use Rattle.write.specs.Write.{Entry, record_bytes, form_for, WriteSays}
@@ -122,7 +122,7 @@ module _ (sh : Shape) (e : Entry) (old : List ℕ) (r : Wrote) (new : List ℕ) 
   is = says.given.body
 
   abbrev Answers : Why → ℕ → Type 0
-  Answers why at = r.answer ≡ Answer.Refused (refusal_of why at)
+  Answers why at = r.answer ≡ Err (refusal_of why at)
 
   -- 18: the other form comes next.
   pub by-18 : (at : ℕ) → Answers WrongForm at ↔ ((e.form ≡ form_for sh.kind → ⊥) × (at ≡ 0))

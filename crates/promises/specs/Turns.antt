@@ -6,9 +6,9 @@
 -- `TurnSays` is the promise of the code (specs/Turn.antt of `walk`). Assumes nothing.
 use Rattle.std.specs.Prelude.{ℕ, ◌≡◌, List, [], ◌∷◌}
 use Rattle.refusal.specs.declared.Ending.{Ending}
+use Rattle.record.specs.declared.Cursor.{Cursor}
 use Rattle.record.specs.declared.Slot.{Slot}
 use Rattle.record.specs.declared.Turn.{Turn}
-use Rattle.walk.specs.declared.Cursor.{Cursor}
 use Rattle.walk.specs.declared.Turned.{Turned}
 use Rattle.walk.specs.Turn.{opening_cursor, TurnSays}
 

@@ -1,90 +1,74 @@
 // A log that was written is read back by the walk, and held to its entries.
 use harness::print;
 use made_logs::made::Made;
+use numbers::Span;
 use record::{Slot, Turn};
 use refusal::Ending;
 use standing::{REGISTERS, TALLIES};
 use walk::Turned;
-use writes::entries::Found;
 use writes::{entries, records};
 
-fn wide(n: u32) -> usize {
-    n as usize
+// A log that was written, with its tail, and what it was written from.
+#[derive(Clone, Copy)]
+pub struct Written<'a> {
+    pub block: &'a [u8],
+    pub log: &'a [u8],
+    // Where the entries start that were written.
+    pub starts: &'a [usize],
+    pub made: Made,
 }
 
-fn start_of(starts: &[u32], i: usize) -> usize {
-    if i < starts.len() { wide(starts[i]) } else { 0 }
-}
-
-// Whether a record is that of the i-th entry that was written. Of the bytes given the first stands at
-// `base` in the log.
-pub fn is_record(
-    bytes: &[u8],
-    base: usize,
-    slot: Slot,
-    block: &[u8],
-    starts: &[u32],
-    i: usize,
-) -> bool {
-    match entries::entry_at(block, start_of(starts, i)) {
-        Found::Entry(e) => records::is_entry(bytes, base, slot, block, e),
-        Found::Over => false,
-        Found::Bad => false,
+impl<'a> Written<'a> {
+    // Whether a record is that of the i-th entry that was written. Its bytes may have others behind
+    // them.
+    pub fn is_record(self, i: usize, slot: Slot, record: &[u8]) -> bool {
+        let Some(start) = self.starts.get(i) else {
+            return false;
+        };
+        entries::at(self.block, *start).is_some_and(|e| records::is_entry(record, slot, e))
     }
-}
 
-// Whether a log ends behind its records, with a tail.
-pub fn is_end(e: Ending, len: usize, m: Made) -> bool {
-    match e {
-        Ending::End { at, tail } => {
-            at == m.end && tail == std::num::wrapping_sub_usize(len, m.end)
+    // Whether the log ends behind its records, with its tail.
+    pub fn is_end(self, ending: Ending) -> bool {
+        let at = self.made.end;
+        let tail = self.log.len().wrapping_sub(at);
+        ending == Ending::End { at, tail }
+    }
+
+    // Whether the walk gives the i-th record, and the writer's state behind it: from the first record
+    // on that does not change.
+    fn is_given(self, i: usize, turned: Turned) -> bool {
+        match turned.turn {
+            Turn::Record(slot) => {
+                let rest = Span {
+                    at: slot.start,
+                    len: self.log.len(),
+                };
+                self.is_record(i, slot, numbers::part(self.log, rest))
+                    && turned.next.shape == self.made.state
+            }
+            Turn::Stop(_) => false,
         }
-        Ending::Refused(_) => false,
     }
-}
 
-fn is_last(turn: Turn, len: usize, m: Made) -> bool {
-    match turn {
-        Turn::Record(_) => false,
-        Turn::Stop(e) => is_end(e, len, m),
-    }
-}
-
-// Whether the walk gives the i-th record, and the writer's state behind it: from the first record on
-// that does not change.
-fn is_given(block: &[u8], log: &[u8], starts: &[u32], i: usize, turned: Turned, m: Made) -> bool {
-    let turn = turned.turn;
-    let next = turned.next;
-    let after = next.shape;
-    let state = m.state;
-    match turn {
-        Turn::Record(slot) => {
-            is_record(log, 0, slot, block, starts, i) && records::same_state(after, state)
+    // Whether the walk gives the records, and then the end. It stops at the first difference.
+    pub fn is_walked(self) -> bool {
+        let mut counts = [0u32; REGISTERS];
+        let mut tallies = [0u32; TALLIES];
+        let mut cursor = walk::opening();
+        for i in 0..self.made.records {
+            let turned = walk::next_record(self.log, cursor, &mut counts, &mut tallies);
+            if !self.is_given(i, turned) {
+                print::line(format_args!("record {i} of the walk differs"));
+                return false;
+            }
+            cursor = turned.next;
         }
-        Turn::Stop(_) => false,
-    }
-}
-
-// How many differences the walk meets: it stops at the first.
-pub fn differences(block: &[u8], log: &[u8], starts: &[u32], m: Made) -> usize {
-    let mut counts = [0u32; REGISTERS];
-    let mut tallies = [0u32; TALLIES];
-    let mut c = walk::opening();
-    let mut i: usize = 0;
-    while i < m.records {
-        let turned = walk::next_record(log, c, &mut counts, &mut tallies);
-        if !is_given(block, log, starts, i, turned, m) {
-            print::line(b"record # of the walk differs\n", &[i as u64]);
-            return 1;
+        let last = walk::next_record(self.log, cursor, &mut counts, &mut tallies);
+        let is_last = matches!(last.turn, Turn::Stop(ending) if self.is_end(ending));
+        if !is_last {
+            print::line("the end of the walk differs");
         }
-        c = turned.next;
-        i += 1;
+        is_last
     }
-    let last = walk::next_record(log, c, &mut counts, &mut tallies);
-    let turn = last.turn;
-    if is_last(turn, log.len(), m) {
-        return 0;
-    }
-    print::say(b"the end of the walk differs\n");
-    1
 }

@@ -3,85 +3,40 @@
 #![tactic(auto)]
 
 mod measure;
-mod sums;
 
-use harness::input::Input;
 use harness::{input, print};
-use measure::Tally;
-use numbers::Span;
 use refusal::{HOLD_FULL, LOG_MOST};
+use std::num::NonZeroUsize;
 
 // No input has so many tasks.
-const TASKS_MOST: usize = 4294967295;
+const TASKS_MOST: u64 = 4294967295;
 
-// A log to be read `times` times over: by pieces of a size, or whole where that is 0.
-#[derive(Clone, Copy)]
-struct Task {
-    size: usize,
-    times: usize,
-    bytes: usize,
-}
-
-fn line(task: Task, t: Tally) {
-    if task.size == 0 {
-        print::say(b"walk");
-    } else {
-        print::line(b"pieces of #", &[task.size as u64]);
+// Reads the log as its head says, and tells what came of it.
+fn read(head: &[u8; 12], log: &[u8], hold: &mut [u8]) {
+    let size = NonZeroUsize::new(numbers::le32(head, 0) as usize);
+    let times = numbers::le32(head, 4);
+    let t = measure::repeat(log, hold, size, times);
+    match size {
+        Some(size) => print::say(format_args!("pieces of {size}")),
+        None => print::say("walk"),
     }
-    print::line(
-        b" bytes # times # calls # records # sum #\n",
-        &[
-            task.bytes as u64,
-            task.times as u64,
-            t.calls as u64,
-            t.records as u64,
-            t.sum,
-        ],
-    );
-}
-
-fn task_of(head: &[u8; 12], bytes: usize) -> Task {
-    Task {
-        size: numbers::le32(head, 0) as usize,
-        times: numbers::le32(head, 4) as usize,
-        bytes,
-    }
-}
-
-fn done(buf: &[u8], hold: &mut [u8], task: Task) {
-    let log = numbers::part(
-        buf,
-        Span {
-            at: 0,
-            len: task.bytes,
-        },
-    );
-    let t = measure::repeat(log, hold, task.size, task.times);
-    line(task, t);
-}
-
-// Does the next task, and answers whether there may be a further one.
-fn next(buf: &mut [u8], hold: &mut [u8], index: usize) -> bool {
-    let mut head = [0u8; 12];
-    match input::next_task(&mut head, buf) {
-        Input::Log(bytes) => {
-            done(buf, hold, task_of(&head, bytes));
-            return true;
-        }
-        Input::End => return false,
-        Input::Short => print::line(b"standard input ends inside task #\n", &[index as u64]),
-        Input::Long => print::line(b"over 65536 bytes: task #\n", &[index as u64]),
-    }
-    false
+    print::line(format_args!(
+        " bytes {} times {times} calls {} records {} sum {}",
+        log.len(),
+        t.calls,
+        t.records,
+        t.sum
+    ));
 }
 
 fn tasks(buf: &mut [u8], hold: &mut [u8]) {
-    let mut i: usize = 0;
-    while i < TASKS_MOST {
-        if !next(buf, hold, i) {
-            return;
+    for index in 0..TASKS_MOST {
+        let mut head = [0u8; 12];
+        match input::next_task(&mut head, buf) {
+            Ok(Some(log)) => read(&head, log, hold),
+            Ok(None) => return,
+            Err(why) => return print::broken(why, "task", index),
         }
-        i += 1;
     }
 }
 

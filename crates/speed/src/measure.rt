@@ -1,137 +1,91 @@
 // Reads a log whole or by pieces, as often as is asked for, and adds up what its records say.
-use crate::sums;
-use numbers::Span;
 use record::{Slot, Turn};
 use standing::{REGISTERS, TALLIES};
-use walker::{Answer, Kept, Walker};
-
-// No log takes so many calls.
-const CALLS_MOST: usize = 1000000;
+use std::num::NonZeroUsize;
+use walker::{Answer, Walker};
 
 // The calls and the records so far, and the sum of the records' numbers.
-#[derive(Clone, Copy)]
+#[derive(Clone, Copy, Default)]
 pub struct Tally {
-    pub calls: usize,
-    pub records: usize,
+    pub calls: u64,
+    pub records: u64,
     pub sum: u64,
 }
 
-fn more(n: usize) -> usize {
-    std::num::wrapping_add_usize(n, 1)
+// All the numbers of a slot count, so that a compiler can leave out no part of the reading.
+fn sum_of(slot: Slot) -> u64 {
+    let numbers = fields::fields_of(slot).numbers;
+    numbers.iter().fold(0u64, |sum, n| sum.wrapping_add(*n))
 }
 
-fn called(t: Tally) -> Tally {
-    Tally {
-        calls: more(t.calls),
-        records: t.records,
-        sum: t.sum,
+impl Tally {
+    fn call(&mut self) {
+        self.calls = self.calls.wrapping_add(1);
+    }
+
+    fn record(&mut self, slot: Slot) {
+        self.records = self.records.wrapping_add(1);
+        self.sum = self.sum.wrapping_add(sum_of(slot));
+    }
+
+    fn answer(&mut self, a: Answer) {
+        self.call();
+        if let Answer::Record(slot) = a {
+            self.record(slot);
+        }
     }
 }
 
-fn given(t: Tally, slot: Slot) -> Tally {
-    Tally {
-        calls: more(t.calls),
-        records: more(t.records),
-        sum: sums::add(t.sum, sums::slot(slot)),
-    }
-}
-
-fn answered(t: Tally, answer: Answer) -> Tally {
-    if let Answer::Record(slot) = answer {
-        given(t, slot)
-    } else {
-        called(t)
-    }
-}
-
-fn is_open(kept: Kept) -> bool {
-    if let Kept::Open = kept { true } else { false }
-}
-
-// The whole log, record by record, until it ends or is refused.
-fn walked(log: &[u8], before: Tally) -> Tally {
-    let mut t = before;
+// The whole log, record by record, until it ends or is refused. Each record has a byte at least.
+fn walk(log: &[u8], t: &mut Tally) {
     let mut counts = [0u32; REGISTERS];
     let mut tallies = [0u32; TALLIES];
-    let mut c = walk::opening();
-    let mut i: usize = 0;
-    while i < CALLS_MOST {
-        let turned = walk::next_record(log, c, &mut counts, &mut tallies);
-        let turn = turned.turn;
-        match turn {
-            Turn::Record(slot) => {
-                t = given(t, slot);
-                c = turned.next;
-            }
-            Turn::Stop(e) => return called(t),
+    let mut cursor = walk::opening();
+    for _ in 0..=log.len() {
+        let turned = walk::next_record(log, cursor, &mut counts, &mut tallies);
+        t.call();
+        match turned.turn {
+            Turn::Record(slot) => t.record(slot),
+            Turn::Stop(_) => return,
         }
-        i += 1;
+        cursor = turned.next;
     }
-    t
 }
 
-// What is left at `at` of the piece of this size that started last.
-fn rest_of(log: &[u8], at: usize, size: usize) -> &[u8] {
-    let len = if size == 0 {
-        0
-    } else {
-        std::num::wrapping_sub_usize(size, at % size)
-    };
-    numbers::part(log, Span { at, len })
-}
-
-// No piece comes after these.
-fn closed(w: Walker, hold: &[u8], t: Tally) -> Tally {
-    let kept = w.kept;
-    if !is_open(kept) {
-        return t;
+// One piece until all of it is taken: by each call a byte at least.
+fn feed_piece(w: &mut Walker, hold: &mut [u8], piece: &[u8], t: &mut Tally) {
+    let mut rest = piece;
+    for _ in 0..piece.len() {
+        if rest.is_empty() || w.kept.is_some() {
+            return;
+        }
+        let fed = walker::feed(*w, hold, rest);
+        *w = fed.walker;
+        t.answer(fed.reply.answer);
+        rest = rest.get(fed.reply.count..).unwrap_or(&[]);
     }
-    let f = walker::close(w, hold);
-    let reply = f.reply;
-    let answer = reply.answer;
-    answered(t, answer)
 }
 
-// The log by pieces, each fed until all of it is taken, and a close.
-fn fed(log: &[u8], hold: &mut [u8], size: usize, before: Tally) -> Tally {
-    let mut t = before;
+// The log by pieces, and a close.
+fn feed(log: &[u8], hold: &mut [u8], size: NonZeroUsize, t: &mut Tally) {
     let mut w = walker::fresh();
-    let mut at: usize = 0;
-    let mut i: usize = 0;
-    while i < CALLS_MOST {
-        let kept = w.kept;
-        if log.len() <= at || !is_open(kept) {
-            return closed(w, hold, t);
+    for piece in log.chunks(size.get()) {
+        feed_piece(&mut w, hold, piece, t);
+    }
+    if w.kept.is_none() {
+        let fed = walker::close(w, hold);
+        t.answer(fed.reply.answer);
+    }
+}
+
+// Reads the log so many times by pieces of a size, or whole where there is none.
+pub fn repeat(log: &[u8], hold: &mut [u8], size: Option<NonZeroUsize>, times: u32) -> Tally {
+    let mut t = Tally::default();
+    for _ in 0..times {
+        match size {
+            Some(size) => feed(log, hold, size, &mut t),
+            None => walk(log, &mut t),
         }
-        let f = walker::feed(w, hold, rest_of(log, at, size));
-        let reply = f.reply;
-        let answer = reply.answer;
-        t = answered(t, answer);
-        w = f.walker;
-        at = std::num::wrapping_add_usize(at, reply.count);
-        i += 1;
-    }
-    t
-}
-
-// Pieces of size 0 stand for the walk of the whole log.
-fn once(log: &[u8], hold: &mut [u8], size: usize, t: Tally) -> Tally {
-    if size == 0 {
-        return walked(log, t);
-    }
-    fed(log, hold, size, t)
-}
-
-pub fn repeat(log: &[u8], hold: &mut [u8], size: usize, times: usize) -> Tally {
-    let mut t = Tally {
-        calls: 0,
-        records: 0,
-        sum: 0,
-    };
-    let mut i: usize = 0;
-    while i < times {
-        t = once(log, hold, size, t);
-        i += 1;
     }
     t
 }

@@ -1,13 +1,11 @@
 -- Laws of the sum (specs/Sum.antt): in parts it is what it is at once, however it is cut; by the table it is what it is bit by bit. Assumes
 -- nothing.
-use Prim.Native.Nat.{ℕ, zero, suc, ◌+◌, ◌*◌, ◌/◌, ◌%◌, ◌^◌, ◌≤◌, ◌<◌}
+use Prim.Native.Nat.{ℕ, zero, suc, ◌+◌, ◌*◌, ◌/◌, ◌%◌, ◌^◌, ◌<◌}
 use mathlib.Core.Path.{◌≡◌, refl, sym, ap, ap₂, ◌∙◌}
 use mathlib.Core.List.{List, [], ◌∷◌, ◌++◌, map, foldl, flatten}
 use native.Mathlib.Omega.{arith}
 use native.Mathlib.Nat.{mod-lt, pow-suc, zero-mul, zero-add, add-zero, add-suc, suc-add}
-use native.Mathlib.Numerals.{add-one}
-use lib.ListN.{length, get_or, drop, drop_of_length-le}
-use lib.Seq.{drop-cons}
+use lib.ListN.{get_or}
 use lib.Pow.{split, pow_pos}
 use lib.Bits.{bit_xor, xor_zero_r, xor_comm, xor_block, xor_lt, block_half, block_odd}
 use Rattle.sum.specs.Sum.{polynomial, complement, shifted, sum_from, sum_of, up_from, remainders, by_table, table_from}
@@ -86,16 +84,3 @@ in_parts ps = ap complement (each (complement 0) ps ∙ sum-cut (complement 0) p
     each : (r : ℕ) (ps : List (List ℕ)) → foldl (table_from remainders) r ps ≡ foldl sum_from r ps
     each r [] = refl
     each r (p ∷ ps) = each (table_from remainders r p) ps ∙ ap (λ q. foldl sum_from q ps) (table-sum r p)
-
--- ---- byte after byte
-
-pub table-next : (t : List ℕ) (r : ℕ) (s : List ℕ) (i : ℕ) → i < length s
-    → table_from t (by_table t (bit_xor (get_or s i 0) r)) (drop (i + 1) s) ≡ table_from t r (drop i s)
-unfolding table_from
-table-next t r s i h =
-    let d : drop i s ≡ get_or s i 0 ∷ drop (i + 1) s = rw (add-one i) (drop-cons s i 0 h) in
-    ap (table_from t r) (sym d)
-
-pub table-end : (t : List ℕ) (r : ℕ) (s : List ℕ) (i : ℕ) → length s ≤ i → table_from t r (drop i s) ≡ r
-unfolding table_from
-table-end t r s i h = ap (table_from t r) (drop_of_length-le s h)

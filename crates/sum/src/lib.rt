@@ -30,15 +30,14 @@ pub fn start() -> u32
 }
 
 // The register after the bytes of one part more.
+#[tactic(auto, unfolding(crate::specs::Sum::table_from))]
 pub fn part(table: &[u32; 256], register: u32, s: &[u8]) -> u32
     ensures { result ≡ table_from table.now register s.now }
 {
     let mut r = register;
-    let mut i = 0;
-    while i < s.len() {
-        let x = (s[i] as u32) ^ r;
+    for b in s {
+        let x = (*b as u32) ^ r;
         r = (x / 256) ^ table[(x % 256) as usize];
-        i += 1;
     }
     r
 }

@@ -1,22 +1,20 @@
 -- The rule of the table of classes (specs/Classes.antt), and from it that the walk by classes is the walk by Unicode's nine rows.
 -- Assumes nothing.
-use Prim.Native.Nat.{ℕ, zero, suc, ◌+◌, ◌≤◌, ◌<◌}
-use mathlib.Core.Path.{◌≡◌, refl, sym, ap, ap₂, ◌∙◌}
-use mathlib.Core.Bool.{Bool, true, false, ◌&&◌, beq, and-true}
-use mathlib.Core.List.{List, [], ◌∷◌, map}
-use native.Mathlib.Omega.{arith}
-use native.Mathlib.Numerals.{add-one}
-use lib.ListN.{length, get_or, drop, drop_of_length-le}
-use lib.Seq.{drop-cons, drop-drop}
+use Rattle.std.specs.Prelude.{Option, Some, None, MatchOption}
+use Rattle.std.specs.List.{list_all}
+use Rattle.std.proofs.Common.{ℕ, zero, suc, ◌+◌, ◌-◌, ◌≤◌, ◌<◌, ◌≡◌, refl, sym, ap, ap₂, ◌∙◌, Bool, true, false, cond, ◌&&◌, List, [], ◌∷◌, map, take, drop, replicate, length, arith}
+use Rattle.std.proofs.Math.Seq.{drop-drop}
+use Rattle.std.proofs.lemmas.List.{length-map, length-replicate, length-take-le}
+use mathlib.Core.Bool.{beq}
 use lib.Arith.{lt_of_le-ne}
 use borrow.Author.Tests.{le-leb, lt-leb}
 use Rattle.numbers.specs.Number.{Bytes}
 use Rattle.numbers.proofs.ByCases.{split, Away, never}
-use Rattle.numbers.proofs.NumberLaws.{bytes-tail, bytes_drop}
+use Rattle.numbers.proofs.NumberLaws.{bytes-tail}
 use Rattle.text.specs.Rows.{Range, ◌··◌, Row, inside, opens, step_of, onward, formed}
 use Rattle.text.specs.Unicode.{utf8_rows}
 use Rattle.text.specs.Classes.{classes, class_of, classes_from, class_rows, row_agrees, rows_agree}
-use Rattle.text.proofs.RowLaws.{opens-cons}
+use Rattle.text.proofs.RowLaws.{opens-within, opens-cons}
 use Rattle.text.proofs.Table.{and_left, and_right, every, every-at}
 
 -- the one computed test: Unicode's ranges at each of the 256 entries
@@ -87,13 +85,6 @@ formed_like (suc k) (x ∷ s) t = formed_like k s (bytes-tail t)
 pub formed-classes : (s : List ℕ) → Bytes s → formed utf8_rows 0 s ≡ formed class_rows 0 (map class_of s)
 formed-classes s t = formed_like 0 s t
 
--- the classes from a place on: that of the byte there, and those after it
-from_cons : (s : List ℕ) (at : ℕ) → at < length s → classes_from s at ≡ class_of (get_or s at 0) ∷ classes_from s (at + 1)
-unfolding classes_from
-from_cons s at h =
-    let e : drop at s ≡ get_or s at 0 ∷ drop (at + 1) s = rw (add-one at) (drop-cons s at 0 h) in
-    ap (map class_of) e
-
 -- a row's first range at a place, its others at the next
 pub opens-from : (r : Range) (row : Row) (s : List ℕ) (at next : ℕ) → at + 1 ≡ next
     → opens (r ∷ row) (classes_from s at) ≡ opens (r ∷ []) (classes_from s at) && opens row (classes_from s next)
@@ -107,22 +98,55 @@ opens-from r row s at next e =
     tail [] = refl
     tail (x ∷ l) = refl
 
--- one range at a place
-pub opens_one : (r : Range) (s : List ℕ) (at : ℕ) → at < length s → opens (r ∷ []) (classes_from s at) ≡ inside r (class_of (get_or s at 0))
-opens_one r s at h = ap (opens (r ∷ [])) (from_cons s at h) ∙ and-true (inside r (class_of (get_or s at 0)))
+-- a row opens s where it opens its front
+opens-take : (row : Row) (s : List ℕ) → opens row (take (length row) s) ≡ opens row s
+opens-take [] s = refl
+opens-take (r ∷ row) [] = refl
+opens-take (r ∷ row) (x ∷ s) = ap (λ b. inside r x && b) (opens-take row s)
 
-pub opens-past : (r : Range) (s : List ℕ) (at : ℕ) → length s ≤ at → opens (r ∷ []) (classes_from s at) ≡ false
-unfolding classes_from
-opens-past r s at h = rw (drop_of_length-le s h)
+take-map : (n : ℕ) (s : List ℕ) → take n (map class_of s) ≡ map class_of (take n s)
+take-map zero s = refl
+take-map (suc n) [] = refl
+take-map (suc n) (x ∷ s) = ap (λ t. class_of x ∷ t) (take-map n s)
 
--- the sequence at a place, by the class of its lead
-pub step-lead : (s : List ℕ) (at k : ℕ) → Bytes s → at < length s → k ≡ class_of (get_or s at 0)
-    → step_of class_rows (k ∷ classes_from s (at + 1)) ≡ step_of utf8_rows (drop at s)
+-- the bytes after a lead but for the first of them have one range
+follow-opens : (s : List ℕ) → opens (replicate (length s) (1 ·· 3)) (map class_of s) ≡ list_all (λ b. inside (1 ·· 3) (class_of b)) s
+follow-opens [] = refl
+follow-opens (x ∷ s) = ap (λ b. inside (1 ·· 3) (class_of x) && b) (follow-opens s)
+
+-- n bytes after a lead, by their classes: fewer are too few, and of more the first n decide
+pub led-short : (r : Range) (n : ℕ) (s : List ℕ) → 0 < n → length s < n → opens (r ∷ replicate (n - 1) (1 ·· 3)) (classes_from s 0) ≡ false
 unfolding classes_from
-step-lead s at k t h e =
-    ap (λ (c : ℕ). step_of class_rows (c ∷ classes_from s (at + 1))) e
-    ∙ ap (step_of class_rows) (sym (from_cons s at h))
-    ∙ sym (step-classes (drop at s) (bytes_drop s at t))
+led-short r n s z h = go (opens (r ∷ replicate (n - 1) (1 ·· 3)) (map class_of s)) refl
+  where
+    go : (b : Bool) → opens (r ∷ replicate (n - 1) (1 ·· 3)) (map class_of s) ≡ b → opens (r ∷ replicate (n - 1) (1 ·· 3)) (map class_of s) ≡ false
+    go true e =
+        absurd (omega (arith, opens-within (r ∷ replicate (n - 1) (1 ·· 3)) (map class_of s) e, length-map s class_of, length-replicate {A = Range} (n - 1) (1 ·· 3)))
+    go false e = e
+
+pub led-front : (r : Range) (n : ℕ) (s others : List ℕ) (first : ℕ) → 0 < n → n ≤ length s → take n s ≡ first ∷ others
+    → opens (r ∷ replicate (n - 1) (1 ·· 3)) (classes_from s 0) ≡ inside r (class_of first) && list_all (λ b. inside (1 ·· 3) (class_of b)) others
+unfolding classes_from
+led-front r n s others first z h e =
+    let row = r ∷ replicate (n - 1) (1 ·· 3) in
+    let size : length row ≡ n = omega (arith, length-replicate {A = Range} (n - 1) (1 ·· 3)) in
+    let many : length others ≡ n - 1 = omega (arith, ap length e, length-take-le n s h) in
+    let front : take (length row) (map class_of s) ≡ class_of first ∷ map class_of others = rw size (take-map n s ∙ ap (map class_of) e) in
+    sym (opens-take row (map class_of s))
+    ∙ ap (opens row) front
+    ∙ ap (λ b. inside r (class_of first) && b) (ap (λ k. opens (replicate k (1 ·· 3)) (map class_of others)) (sym many) ∙ follow-opens others)
+
+-- the sequence of a lead, by its class
+pub step-lead : (lead : ℕ) (after : List ℕ) (k : ℕ) → Bytes (lead ∷ after) → k ≡ class_of lead
+    → step_of utf8_rows (lead ∷ after) ≡ step_of class_rows (k ∷ classes_from after 0)
+unfolding classes_from
+step-lead lead after k t e = step-classes (lead ∷ after) t ∙ ap (λ c. step_of class_rows (c ∷ map class_of after)) (sym e)
+
+-- so many bytes more, or none
+pub led-step : (b : Bool) (n step : ℕ) (r : Option ℕ) → r ≡ cond b (Some n) None → step ≡ cond b (n + 1) 0
+    → MatchOption r (step ≡ 0) (λ k. step ≡ k + 1)
+led-step true n step r e f = rw e f
+led-step false n step r e f = rw e f
 
 inside_one : (k c : ℕ) → (c ≡ k → ⊥) → inside (k ·· k) c ≡ false
 inside_one k c h = split k c (λ le. rw (le-leb k c le, lt-leb c k (lt_of_le-ne le (λ e. h (sym e))))) (λ lt. rw (lt-leb k c lt))

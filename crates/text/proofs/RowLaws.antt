@@ -1,16 +1,18 @@
 -- Laws of sequences by rows (specs/Rows.antt): a sequence lies in its list, a text goes on after a sequence, and where no
 -- sequence stands it is not well formed. Assumes nothing.
-use Prim.Native.Nat.{ℕ, zero, suc, ◌+◌, ◌≤◌, ◌<◌}
+use Prim.Native.Nat.{ℕ, zero, suc, ◌+◌, ◌-◌, ◌≤◌}
 use mathlib.Core.Path.{◌≡◌, refl, sym, ap, ◌∙◌}
 use mathlib.Core.Bool.{Bool, true, false, cond, ◌&&◌, and-true}
 use mathlib.Core.List.{List, [], ◌∷◌}
 use native.Mathlib.Omega.{arith}
-use lib.ListN.{length, drop, length-drop, drop_of_length-le}
+use native.Mathlib.Numerals.{add-one}
+use lib.ListN.{length, drop}
 use lib.Seq.{drop-drop}
 use Rattle.numbers.proofs.ByCases.{never}
 use Rattle.text.specs.Rows.{Range, Row, inside, opens, step_of, onward, formed}
 
-opens-within : (row : Row) (s : List ℕ) → opens row s ≡ true → length row ≤ length s
+-- a sequence of a row is no longer than the list that it opens
+pub opens-within : (row : Row) (s : List ℕ) → opens row s ≡ true → length row ≤ length s
 opens-within [] s e = omega arith
 opens-within (r ∷ row) [] e = never cc
 opens-within (r ∷ row) (x ∷ s) e = go (inside r x) e (opens-within row s)
@@ -55,20 +57,19 @@ pub formed-nil : (rows : List Row) → formed rows 0 [] ≡ true
 unfolding formed
 formed-nil rows = refl
 
--- A loop that passes one sequence after another. From `at` on it stands before a sequence of n elements, n not 0:
--- the next place is in the list, and what is left there is as well formed as what is left here.
-pub turn-fits : (rows : List Row) (s : List ℕ) (at n : ℕ) → at ≤ length s → n ≡ step_of rows (drop at s) → at + n ≤ length s
-turn-fits rows s at n h e = omega (arith, step_of-within rows (drop at s), length-drop at s)
+-- past a sequence, whose lead has n elements after it, the rest decides
+pub formed-past : (rows : List Row) (x : ℕ) (s : List ℕ) (n : ℕ) → step_of rows (x ∷ s) ≡ n + 1 → formed rows 0 (drop n s) ≡ formed rows 0 (x ∷ s)
+formed-past rows x s n e = sym (formed-next rows (x ∷ s) n (e ∙ add-one n))
 
-pub turn : (rows : List Row) (s : List ℕ) (at n : ℕ) → 0 < n → n ≡ step_of rows (drop at s)
-    → formed rows 0 (drop (at + n) s) ≡ formed rows 0 (drop at s)
-turn rows s at zero h e = absurd (omega arith)
-turn rows s at (suc n) h e = ap (formed rows 0) (sym (drop-drop (suc n) at s)) ∙ sym (formed-next rows (drop at s) n (sym e))
+-- the sequence at the front of a list lies in it
+pub past-within : (rows : List Row) (x : ℕ) (s : List ℕ) (n : ℕ) → step_of rows (x ∷ s) ≡ n + 1 → n ≤ length s
+past-within rows x s n e = omega (arith, step_of-within rows (x ∷ s))
 
--- where no sequence stands before the end, what is left is not well formed
-pub turn-stuck : (rows : List Row) (s : List ℕ) (at : ℕ) → at < length s → 0 ≡ step_of rows (drop at s) → formed rows 0 (drop at s) ≡ false
-turn-stuck rows s at h e = formed-stuck rows (drop at s) (omega (arith, length-drop at s)) (sym e)
-
--- at the end, what is left is well formed
-pub turn-done : (rows : List Row) (s : List ℕ) (at : ℕ) → length s ≤ at → formed rows 0 (drop at s) ≡ true
-turn-done rows s at h = ap (formed rows 0) (drop_of_length-le s h) ∙ formed-nil rows
+-- an end of an end is an end
+pub end-of_end : (s r t : List ℕ) → length r ≤ length s → length t ≤ length r → r ≡ drop (length s - length r) s → t ≡ drop (length r - length t) r
+    → t ≡ drop (length s - length t) s
+end-of_end s r t h g p q =
+    let a = length s - length r in
+    let b = length r - length t in
+    let e : a + b ≡ length s - length t = omega arith in
+    q ∙ ap (drop b) p ∙ drop-drop b a s ∙ ap (λ n. drop n s) e

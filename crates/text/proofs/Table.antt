@@ -1,5 +1,5 @@
-use Rattle.numbers.proofs.ByCases.{never}
 -- A rule of a table at each of its entries, by one test that is computed over the whole table. Assumes nothing.
+use Rattle.numbers.proofs.ByCases.{never}
 use Prim.Native.Nat.{ℕ, zero, suc, ◌+◌, ◌<◌}
 use mathlib.Core.Path.{◌≡◌, refl}
 use mathlib.Core.Bool.{Bool, true, false, ◌&&◌}

@@ -4,13 +4,13 @@ use mathlib.Core.Path.{◌≡◌, refl, sym, ap, ◌∙◌}
 use mathlib.Core.Bool.{cond, and-true}
 use mathlib.Core.List.{List, [], ◌∷◌, ◌++◌}
 use native.Mathlib.Omega.{arith}
-use native.Mathlib.Nat.{add-zero}
-use lib.ListN.{length, take, drop, get_or, length-drop, drop_of_length-le}
-use lib.Seq.{take-suc, drop-nil, drop-drop, length-take-le, get_or-drop}
+use lib.ListN.{length, take, drop}
+use Rattle.std.specs.Int.{from_le_bytes}
+use Rattle.std.proofs.Common.{w16}
+use Rattle.std.proofs.lemmas.List.{length-append, take-append-drop}
+use lib.Seq.{drop-nil}
 use borrow.Author.Tests.{le-leb, lt-leb}
-use Rattle.numbers.specs.Number.{le_of, number_at}
-use Rattle.numbers.proofs.ByCases.{split}
-use Rattle.numbers.proofs.NumberLaws.{number_at-past}
+use Rattle.numbers.specs.Number.{Bytes, le_of, number_at}
 use Rattle.text.specs.Rows.{◌··◌, inside, opens, step_of}
 use Rattle.text.specs.Unicode.{wide_rows}
 use Rattle.text.specs.Text.{keep, trimmed_of, units_of}
@@ -31,20 +31,6 @@ trim-other (y ∷ s) x h = ap (keep y) (trim-other s x h) ∙ kept y
     kept : (y : ℕ) → keep y (suc (length s)) ≡ suc (suc (length s))
     kept zero = refl
     kept (suc y) = refl
-
--- a zero, or anything else, at the end of the first n elements, as a loop from the end meets it
-pub trim-take-zero : (s : List ℕ) (n : ℕ) → 0 < n → n ≤ length s → get_or s (n - 1) 0 ≡ 0 → trimmed_of (take (n - 1) s) ≡ trimmed_of (take n s)
-trim-take-zero s zero z h e = absurd (omega arith)
-trim-take-zero s (suc n) z h e =
-    let d : suc n - 1 ≡ n = omega arith in
-    let f : get_or s n 0 ≡ 0 = rw d at e in
-    rw d (sym (ap trimmed_of (take-suc s n 0 h) ∙ rw f (trim-zero (take n s))))
-
-pub trim-take-other : (s : List ℕ) (n : ℕ) → 0 < n → n ≤ length s → 0 < get_or s (n - 1) 0 → trimmed_of (take n s) ≡ n
-trim-take-other s zero z h g = absurd (omega arith)
-trim-take-other s (suc n) z h g =
-    let d : suc n - 1 ≡ n = omega arith in
-    ap trimmed_of (take-suc s n 0 h) ∙ trim-other (take n s) (get_or s n 0) (rw d at g) ∙ ap suc (length-take-le n s (omega arith))
 
 pub trim-le : (s : List ℕ) → trimmed_of s ≤ length s
 unfolding trimmed_of
@@ -70,43 +56,38 @@ units-drop (suc i) [] = ap units_of (drop-nil (2 * suc i))
 units-drop (suc i) (a ∷ []) = let e : 2 * suc i ≡ suc (suc (2 * i)) = omega arith in rw e
 units-drop (suc i) (a ∷ b ∷ s) = let e : 2 * suc i ≡ suc (suc (2 * i)) = omega arith in rw e (units-drop i s)
 
-pub units-from : (s : List ℕ) (at : ℕ) → at % 2 ≡ 0 → units_of (drop at s) ≡ drop (at / 2) (units_of s)
-units-from s at h = let e : at ≡ 2 * (at / 2) = omega arith in ap (λ (k : ℕ). units_of (drop k s)) e ∙ units-drop (at / 2) s
+-- two bytes are a unit
+unit-of : (a b : ℕ) → le_of (a ∷ b ∷ []) ≡ from_le_bytes w16 (a ∷ b ∷ [])
+unfolding le_of
+unit-of a b = omega arith
 
--- the units from a place on: the number there, and the units after it
-pub units-at : (s : List ℕ) (at : ℕ) → at + 2 ≤ length s → units_of (drop at s) ≡ number_at 2 s at ∷ units_of (drop (at + 2) s)
-unfolding units_of number_at
-units-at s at h = go (drop at s) (omega (arith, length-drop at s)) ∙ ap (λ (t : List ℕ). number_at 2 s at ∷ units_of t) (drop-drop 2 at s)
+-- the bytes are a unit and what stands after it
+pub units-front : (s unit after : List ℕ) → unit ≡ take 2 s → after ≡ drop 2 s → length after + 2 ≡ length s → units_of s ≡ from_le_bytes w16 unit ∷ units_of after
+unfolding units_of
+units-front s unit after p q h = go s (omega arith) ∙ rw (p, q)
   where
-    go : (t : List ℕ) → 2 ≤ length t → units_of t ≡ le_of (take 2 t) ∷ units_of (drop 2 t)
+    go : (s : List ℕ) → 2 ≤ length s → units_of s ≡ from_le_bytes w16 (take 2 s) ∷ units_of (drop 2 s)
     go [] h = absurd (omega arith)
     go (a ∷ []) h = absurd (omega arith)
-    go (a ∷ b ∷ t) h = refl
+    go (a ∷ b ∷ s) h = ap (λ u. u ∷ units_of s) (unit-of a b)
 
-pub get_or-units : (s : List ℕ) (i : ℕ) → 2 * i + 2 ≤ length s → get_or (units_of s) i 0 ≡ number_at 2 s (2 * i)
-get_or-units s i h =
-    ap (λ (k : ℕ). get_or (units_of s) k 0) (sym (add-zero i))
-    ∙ sym (get_or-drop i (units_of s) 0 0)
-    ∙ ap (λ (u : List ℕ). get_or u 0 0) (sym (units-drop i s) ∙ units-at s (2 * i) h)
+-- the bytes are what stands before the last unit, and that unit
+pub units-end : (s front unit : List ℕ) → front ≡ take (length s - 2) s → unit ≡ drop (length s - 2) s → length front + 2 ≡ length s → length s % 2 ≡ 0
+    → units_of s ≡ units_of front ++ (from_le_bytes w16 unit ∷ [])
+unfolding units_of
+units-end s front unit p q h even =
+    let whole : front ++ unit ≡ s = rw (p, q) (take-append-drop (length s - 2) s) in
+    ap units_of (sym whole) ∙ go front unit (omega arith) (omega (arith, ap length whole, length-append front unit))
+  where
+    go : (front unit : List ℕ) → length front % 2 ≡ 0 → length unit ≡ 2 → units_of (front ++ unit) ≡ units_of front ++ (from_le_bytes w16 unit ∷ [])
+    go [] [] h e = absurd (omega arith)
+    go [] (a ∷ []) h e = absurd (omega arith)
+    go [] (a ∷ b ∷ []) h e = ap (λ u. u ∷ []) (unit-of a b)
+    go [] (a ∷ b ∷ c ∷ unit) h e = absurd (omega arith)
+    go (x ∷ []) unit h e = absurd (omega arith)
+    go (x ∷ y ∷ front) unit h e = ap (λ us. le_of (x ∷ y ∷ []) ∷ us) (go front unit (omega arith) e)
 
--- The units before a place n of the bytes, n even, as a loop from the end meets them: the last of them is the number at n - 2.
-module _ (s : List ℕ) (n : ℕ) (two : 2 ≤ n) (in-s : n ≤ length s) (even : n % 2 ≡ 0) where
-  last-unit : get_or (units_of s) (n / 2 - 1) 0 ≡ number_at 2 s (n - 2)
-  last-unit =
-      let e : 2 * (n / 2 - 1) ≡ n - 2 = omega arith in
-      get_or-units s (n / 2 - 1) (omega arith) ∙ ap (number_at 2 s) e
-
-  pub trim-units-zero : number_at 2 s (n - 2) ≡ 0 → trimmed_of (take ((n - 2) / 2) (units_of s)) ≡ trimmed_of (take (n / 2) (units_of s))
-  trim-units-zero z =
-      let e : (n - 2) / 2 ≡ n / 2 - 1 = omega arith in
-      rw e (trim-take-zero (units_of s) (n / 2) (omega arith) (omega (arith, length-units s)) (last-unit ∙ z))
-
-  pub trim-units-other : 0 < number_at 2 s (n - 2) → 2 * trimmed_of (take (n / 2) (units_of s)) ≡ n
-  trim-units-other z =
-      let e = trim-take-other (units_of s) (n / 2) (omega arith) (omega (arith, length-units s)) (omega (arith, last-unit)) in
-      omega arith
-
--- the sequence of units at a place, by the unit there
+-- the sequence of a unit, by the unit
 pub wide_below : (u : ℕ) (us : List ℕ) → u < 0xD800 → step_of wide_rows (u ∷ us) ≡ 1
 unfolding step_of
 wide_below u us h = rw (le-leb u 0xD7FF (omega arith), le-leb 0 u (omega arith))
@@ -127,13 +108,10 @@ unfolding step_of
 wide-first u us l h =
     rw (lt-leb u 0xD7FF (omega arith), lt-leb 0xE000 u (omega arith), le-leb u 0xDBFF h, le-leb 0 u (omega arith), le-leb 0xD800 u l)
 
--- a second surrogate is the first unit from a place on where the number there is one; past the end there is none
-pub wide-next : (s : List ℕ) (at : ℕ) → (length s - at) % 2 ≡ 0 → opens (0xDC00 ·· 0xDFFF ∷ []) (units_of (drop at s)) ≡ inside (0xDC00 ·· 0xDFFF) (number_at 2 s at)
-unfolding units_of
-wide-next s at e = split (at + 2) (length s) there past
-  where
-    there : at + 2 ≤ length s → opens (0xDC00 ·· 0xDFFF ∷ []) (units_of (drop at s)) ≡ inside (0xDC00 ·· 0xDFFF) (number_at 2 s at)
-    there h = ap (opens (0xDC00 ·· 0xDFFF ∷ [])) (units-at s at h) ∙ and-true (inside (0xDC00 ·· 0xDFFF) (number_at 2 s at))
-
-    past : length s < at + 2 → opens (0xDC00 ·· 0xDFFF ∷ []) (units_of (drop at s)) ≡ inside (0xDC00 ·· 0xDFFF) (number_at 2 s at)
-    past h = let z : length s ≤ at = omega arith in rw (drop_of_length-le s z, number_at-past 2 s at z)
+-- a second surrogate is the first of the units where the number at their front is one: past the end that number is 0, and a byte without
+-- a second is below all of them
+pub wide-next : (s : List ℕ) → Bytes s → opens (0xDC00 ·· 0xDFFF ∷ []) (units_of s) ≡ inside (0xDC00 ·· 0xDFFF) (number_at 2 s 0)
+unfolding units_of number_at le_of
+wide-next [] t = refl
+wide-next (a ∷ []) t = let h : a < 256 = t.below 0 in rw (lt-leb 0xDC00 (a + 256 * 0) (omega arith))
+wide-next (a ∷ b ∷ s) t = and-true _

@@ -5,11 +5,10 @@
 --   utf8_of s       the trimmed length, or refusal 10
 --   wide_of s       the trimmed length in bytes, or refusal 8, or 10
 -- Ours: the check comes before the trimming, and 8 before 10. Laws: proofs/TextLaws.antt. Assumes nothing.
-use Rattle.std.specs.Prelude.{ℕ, zero, suc, ◌*◌, ◌%◌, cond, List, [], ◌∷◌, eqb, length}
+use Rattle.refusal.specs.declared.Why.{Why}
+use Rattle.std.specs.Prelude.{ℕ, zero, suc, ◌*◌, ◌%◌, cond, List, [], ◌∷◌, eqb, length, Result, Ok, Err}
 use Rattle.numbers.specs.Number.{le_of}
 use Rattle.refusal.specs.declared.Why.TheVariants.{Unaligned, BadText}
-use Rattle.text.specs.declared.Text.{Text}
-use Rattle.text.specs.declared.Text.TheVariants.{Length, Refused}
 use Rattle.text.specs.Rows.{formed}
 use Rattle.text.specs.Unicode.{utf8_rows, wide_rows}
 
@@ -29,11 +28,11 @@ units_of [] = []
 units_of (a ∷ []) = []
 units_of (a ∷ b ∷ s) = le_of (a ∷ b ∷ []) ∷ units_of s
 
-unfoldable pub utf8_of : List ℕ → Text
-utf8_of s = cond (formed utf8_rows 0 s) (Length (trimmed_of s)) (Refused BadText)
+unfoldable pub utf8_of : List ℕ → Result ℕ Why
+utf8_of s = cond (formed utf8_rows 0 s) (Ok (trimmed_of s)) (Err BadText)
 
-unfoldable pub wide_of : List ℕ → Text
+unfoldable pub wide_of : List ℕ → Result ℕ Why
 wide_of s =
     cond (eqb (length s % 2) 0)
-    (cond (formed wide_rows 0 (units_of s)) (Length (2 * trimmed_of (units_of s))) (Refused BadText))
-    (Refused Unaligned)
+    (cond (formed wide_rows 0 (units_of s)) (Ok (2 * trimmed_of (units_of s))) (Err BadText))
+    (Err Unaligned)

@@ -1,5 +1,8 @@
 // One class for each byte value: the table. Its meaning is in specs/Classes.antt.
-pub const CLASSES: [u8; 256] = [
+ghost use Rattle.std.specs.Prelude.{◌≡◌};
+ghost use Rattle.text.specs.Classes.{classes, class_of};
+
+static CLASSES: [u8; 256] = [
     // 0x00: stand for themselves
     0, 0, 0, 0, 0, 0, 0, 0, 0, 0, 0, 0, 0, 0, 0, 0,
     // 0x10: stand for themselves
@@ -33,3 +36,16 @@ pub const CLASSES: [u8; 256] = [
     // 0xF0: F0, F1 to F3, F4 lead three bytes more; F5 to FF start nothing
     9, 10, 10, 10, 11, 12, 12, 12, 12, 12, 12, 12, 12, 12, 12, 12,
 ];
+
+fn table() -> &'static [u8; 256]
+    ensures { result.now ≡ classes }
+{
+    &CLASSES
+}
+
+#[tactic(auto, unfolding(crate::specs::Classes::class_of))]
+pub fn class_of(b: u8) -> u8
+    ensures { result ≡ class_of b }
+{
+    table()[b as usize]
+}

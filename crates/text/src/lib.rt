@@ -7,11 +7,3 @@ pub mod utf8;
 pub mod wide;
 
 use refusal::Why;
-
-// What a check says of a text.
-#[derive(Clone, Copy)]
-pub enum Text {
-    // How many bytes it has without its trailing zeros.
-    Length(usize),
-    Refused(Why),
-}

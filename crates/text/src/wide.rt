@@ -1,49 +1,35 @@
 // Wide text: units of two bytes.
-ghost use Rattle.std.specs.Prelude.{◌≡◌, ◌+◌, ◌*◌, ◌%◌, ◌≤◌, length, drop};
+ghost use Rattle.std.specs.Prelude.{◌≡◌, ◌∷◌, ◌+◌, ◌*◌, ◌%◌, length, MatchOption};
 ghost use Rattle.text.specs.Rows.{step_of, formed};
 ghost use Rattle.text.specs.Unicode.{wide_rows};
 ghost use Rattle.text.specs.Text.{trimmed_of, units_of, wide_of};
 
-use crate::Text;
 use refusal::Why;
 
-// How many units the sequence at a place has, 0 where a surrogate is unpaired. Past the end the
-// number is 0, which is no surrogate.
-fn sequence(s: &[u8], at: usize) -> usize
-    requires { (at + 2 ≤ length s.now) × (length s.now % 2 ≡ 0) × (at % 2 ≡ 0) }
-    ensures { result ≡ step_of wide_rows (units_of (drop at s.now)) }
+// How many bytes more the sequence of a unit has: none where a surrogate is unpaired. Past the end
+// the number is 0, which is no surrogate.
+fn more(unit: u16, after: &[u8]) -> Option<usize>
+    ensures { MatchOption result (step_of wide_rows (unit ∷ units_of after.now) ≡ 0) (λ n. 2 * step_of wide_rows (unit ∷ units_of after.now) ≡ n + 2) }
 {
-    let unit = numbers::le16(s, at);
-    if unit < 0xD800 {
-        return 1;
+    match unit {
+        0xD800..=0xDBFF => match numbers::le16(after, 0) {
+            0xDC00..=0xDFFF => Some(2),
+            _ => None,
+        },
+        0xDC00..=0xDFFF => None,
+        _ => Some(0),
     }
-    if 0xDFFF < unit {
-        return 1;
-    }
-    if 0xDBFF < unit {
-        return 0;
-    }
-    let next = numbers::le16(s, at + 2);
-    if next < 0xDC00 {
-        return 0;
-    }
-    if 0xDFFF < next {
-        return 0;
-    }
-    2
 }
 
 fn well_formed(s: &[u8]) -> bool
-    requires { length s.now % 2 ≡ 0 }
     ensures { result ≡ formed wide_rows 0 (units_of s.now) }
 {
-    let mut at = 0;
-    while at < s.len() {
-        let n = sequence(s, at);
-        if n == 0 {
+    let mut rest = s;
+    while let Some((unit, after)) = rest.split_first_chunk::<2>() {
+        let Some(n) = more(u16::from_le_bytes(*unit), after) else {
             return false;
-        }
-        at += 2 * n;
+        };
+        rest = &after[n..];
     }
     true
 }
@@ -53,26 +39,27 @@ fn trimmed(s: &[u8]) -> usize
     requires { length s.now % 2 ≡ 0 }
     ensures { result ≡ 2 * trimmed_of (units_of s.now) }
 {
-    let mut n = s.len();
-    while 0 < n {
-        if numbers::le16(s, n - 2) != 0 {
-            return n;
+    let mut kept = s;
+    while let Some((front, unit)) = kept.split_last_chunk::<2>() {
+        if u16::from_le_bytes(*unit) != 0 {
+            return kept.len();
         }
-        n -= 2;
+        kept = front;
     }
     0
 }
 
 // The length in bytes without trailing zero units, or refusal 8, or 10.
-pub fn check(s: &[u8]) -> Text
+#[tactic(auto, unfolding(crate::specs::Text::wide_of))]
+pub fn check(s: &[u8]) -> Result<usize, Why>
     ensures { result ≡ wide_of s.now }
 {
     if s.len() % 2 != 0 {
-        return Text::Refused(Why::Unaligned);
+        return Err(Why::Unaligned);
     }
     if well_formed(s) {
-        Text::Length(trimmed(s))
+        Ok(trimmed(s))
     } else {
-        Text::Refused(Why::BadText)
+        Err(Why::BadText)
     }
 }

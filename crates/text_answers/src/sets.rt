@@ -1,5 +1,7 @@
-// The sets of elements that sequences are made of, and a sequence by its number.
-ghost use Rattle.std.specs.Prelude.{◌<◌, ◌≤◌};
+// The sets of elements that sequences are made of.
+ghost use Rattle.std.specs.Prelude.{◌<◌, ◌≤◌, length};
+
+use std::fmt;
 
 #[derive(Clone, Copy)]
 pub enum Set {
@@ -44,62 +46,52 @@ const ZERO_BYTES: [u16; 4] = [0x00, 0x41, 0xC3, 0xA9];
 // 'A', a unit whose first byte is zero, and a pair of surrogates.
 const ZERO_UNITS: [u16; 5] = [0x0000, 0x0041, 0x4100, 0xD83D, 0xDE00];
 
-// How many elements a set has.
-pub fn size(set: Set) -> u64
-    ensures { (0 < result) × (result ≤ 256) }
+// A list's element at a number's last digit, in the base that is the list's length.
+fn digit(list: &[u16], number: u64) -> u16
+    requires { 0 < length list.now }
 {
-    match set {
-        Set::Bytes => 256,
-        Set::BorderBytes => 37,
-        Set::BorderUnits => 15,
-        Set::ZeroBytes => 4,
-        Set::ZeroUnits => 5,
+    list[(number % list.len() as u64) as usize]
+}
+
+impl Set {
+    // How many elements it has.
+    pub fn size(self) -> u32
+        ensures { (0 < result) × (result ≤ 256) }
+    {
+        match self {
+            Set::Bytes => 256,
+            Set::BorderBytes => BORDER_BYTES.len() as u32,
+            Set::BorderUnits => BORDER_UNITS.len() as u32,
+            Set::ZeroBytes => ZERO_BYTES.len() as u32,
+            Set::ZeroUnits => ZERO_UNITS.len() as u32,
+        }
+    }
+
+    // Whether an element is a unit of two bytes.
+    pub fn is_wide(self) -> bool {
+        matches!(self, Set::BorderUnits | Set::ZeroUnits)
+    }
+
+    // The element that a number's last digit stands for, in the base that is the set's size.
+    pub fn element(self, number: u64) -> u16 {
+        match self {
+            Set::Bytes => (number % 256) as u16,
+            Set::BorderBytes => digit(&BORDER_BYTES, number),
+            Set::BorderUnits => digit(&BORDER_UNITS, number),
+            Set::ZeroBytes => digit(&ZERO_BYTES, number),
+            Set::ZeroUnits => digit(&ZERO_UNITS, number),
+        }
     }
 }
 
-pub fn is_wide(set: Set) -> bool {
-    match set {
-        Set::Bytes => false,
-        Set::BorderBytes => false,
-        Set::BorderUnits => true,
-        Set::ZeroBytes => false,
-        Set::ZeroUnits => true,
-    }
-}
-
-// The element that a number's last digit stands for, in the base that is the set's size.
-fn element(set: Set, number: u64) -> u16 {
-    match set {
-        Set::Bytes => (number % 256) as u16,
-        Set::BorderBytes => BORDER_BYTES[(number % 37) as usize],
-        Set::BorderUnits => BORDER_UNITS[(number % 15) as usize],
-        Set::ZeroBytes => ZERO_BYTES[(number % 4) as usize],
-        Set::ZeroUnits => ZERO_UNITS[(number % 5) as usize],
-    }
-}
-
-// Puts an element at its place: one byte, or the two of a unit, the low one first.
-fn put(bytes: &mut [u8; 12], wide: bool, at: usize, element: u16)
-    requires { at < 6 }
-{
-    let low = (element % 256) as u8;
-    if wide {
-        bytes[2 * at] = low;
-        bytes[2 * at + 1] = (element / 256) as u8;
-    } else {
-        bytes[at] = low;
-    }
-}
-
-// Puts the sequence of a number: an element for each of its last digits.
-pub fn fill(bytes: &mut [u8; 12], set: Set, len: usize, number: u64)
-    requires { len ≤ 6 }
-{
-    let mut rest = number;
-    let mut at = len;
-    while 0 < at {
-        at -= 1;
-        put(bytes, is_wide(set), at, element(set, rest));
-        rest /= size(set);
+impl fmt::Display for Set {
+    fn fmt<W: fmt::Write>(&self, f: &mut fmt::Formatter<W>) -> fmt::Result {
+        f.write_str(match *self {
+            Set::Bytes => "utf8, any bytes",
+            Set::BorderBytes => "utf8, border bytes",
+            Set::BorderUnits => "wide, border units",
+            Set::ZeroBytes => "utf8, bytes and zeros",
+            Set::ZeroUnits => "wide, units and zeros",
+        })
     }
 }

@@ -1,29 +1,14 @@
 // Bytes as pairs of hexadecimal digits.
-use harness::print;
+use std::fmt;
 
-const DIGITS: [u8; 16] = *b"0123456789abcdef";
+#[derive(Clone, Copy)]
+pub struct Hex<'a>(pub &'a [u8]);
 
-fn digit(n: u8) -> u8 {
-    DIGITS[(n % 16) as usize]
-}
-
-fn digits(b: u8) {
-    print::say(&[digit(b / 16), digit(b)]);
-}
-
-fn all(s: &[u8]) {
-    let mut i: usize = 0;
-    while i < s.len() {
-        digits(s[i]);
-        i += 1;
-    }
-}
-
-// The line, if it is asked for.
-pub fn line(is_told: bool, s: &[u8]) {
-    if is_told {
-        print::say(b"bytes ");
-        all(s);
-        print::say(b"\n");
+impl<'a> fmt::Display for Hex<'a> {
+    fn fmt<W: fmt::Write>(&self, f: &mut fmt::Formatter<W>) -> fmt::Result {
+        for b in self.0 {
+            write!(f, "{b:02x}")?;
+        }
+        Ok(())
     }
 }

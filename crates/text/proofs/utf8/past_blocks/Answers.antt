@@ -1,23 +1,19 @@
--- `text::utf8::past_blocks`: what is left is as well formed as what was left at the start. Assumes nothing.
-use mathlib.Core.Path.{refl, ◌∙◌}
-use native.Mathlib.Omega.{arith}
+-- `text::utf8::past_blocks`: a plain block is a run, and what is left past it is an end of what was left. Assumes nothing.
+use Rattle.std.proofs.Common.{◌≡◌, ◌-◌, ◌++◌, ap, ◌∙◌, arith, length, drop}
+use Rattle.std.proofs.lemmas.List.{take-append-drop}
+use Rattle.text.specs.Rows.{formed}
+use Rattle.text.specs.Unicode.{utf8_rows}
 use Rattle.text.proofs.PlainLaws.{plain-run}
+use Rattle.text.proofs.RowLaws.{end-of_end}
 use Rattle.text.proofs.utf8.past_blocks.Goals as goal
 
-pub loop-at-init : goal.loop-at-init
-loop-at-init c = (omega arith, omega arith, refl)
-
-pub overflow_add-at : goal.overflow_add-at
-overflow_add-at c = omega (arith, (c.is_plain.ensures c.loop-at-test.true).0)
-
-pub loop-at-smaller : goal.loop-at-smaller
-loop-at-smaller c = omega (arith, (c.is_plain.ensures c.loop-at-test.true).0)
-
-pub loop-at-preserved : goal.loop-at-preserved
-loop-at-preserved c =
-    let a = c.args in
-    let (within, plain) = c.is_plain.ensures c.loop-at-test.true in
-    (omega arith, within, plain-run a.s.now c.loop-at.at a.size within plain ∙ c.loop-at.invariant.2)
-
-pub returns : goal.returns
-returns c = c.loop-at.invariant
+pub loop-block-preserved : goal.loop-block-preserved
+loop-block-preserved c =
+    let rest = c.loop-block.rest.now in
+    let (within, front, back, many, left) = c.in-Some.ensures.cases in
+    let whole : c.in-Some.block.now ++ c.in-Some.after.now ≡ rest = rw (front, back) (take-append-drop c.args.size rest) in
+    let size : c.args.size ≡ length rest - length c.in-Some.after.now = omega arith in (
+      omega arith,
+      plain-run c.in-Some.block.now c.in-Some.after.now (c.is_plain.ensures c.if-is_plain.true) ∙ ap (formed utf8_rows 0) whole ∙ c.loop-block.invariant.1,
+      end-of_end c.args.s.now rest c.in-Some.after.now c.loop-block.invariant.0 (omega arith) c.loop-block.invariant.2 (back ∙ ap (λ n. drop n rest) size),
+    )

@@ -1,33 +1,24 @@
--- `text::wide::trimmed`: the units in the first n bytes trim as all do, and n falls by a zero unit a turn. Assumes nothing.
-use Prim.Native.Nat.{◌*◌, ◌/◌}
-use mathlib.Core.Path.{◌≡◌, sym, ap, ◌∙◌}
-use native.Mathlib.Omega.{arith}
-use lib.Seq.{take-length}
-use lib.ListN.{take}
-use Rattle.text.proofs.TextLaws.{length-units, trim-units-zero, trim-units-other}
+-- `text::wide::trimmed`: a zero unit at the end is dropped, and with anything else there nothing is. Assumes nothing.
+use Rattle.std.proofs.Common.{◌++◌, ◌∷◌, [], sym, ap, ◌∙◌, arith}
 use Rattle.text.specs.Text.{trimmed_of, units_of}
+use Rattle.text.proofs.TextLaws.{trim-zero, trim-other, trim-le, length-units, units-end}
 use Rattle.text.proofs.wide.trimmed.Goals as goal
 
-pub loop-n-init : goal.loop-n-init
-loop-n-init c =
-    let s = c.args.s.now in
-    (omega arith, omega arith, ap trimmed_of (ap (λ k. take k (units_of s)) (sym (length-units s)) ∙ take-length (units_of s)))
+pub returns-then-from_le_bytes-ne0 : goal.returns-then-from_le_bytes-ne0
+returns-then-from_le_bytes-ne0 c =
+    let (front, unit, size) = c.in-Some.ensures.cases in
+    let cut = units-end c.loop-front.kept.now c.in-Some.front.now c.in-Some.unit.now front unit size c.loop-front.invariant.0 in
+    let all = ap trimmed_of cut ∙ trim-other (units_of c.in-Some.front.now) _ (omega (arith, c.from_le_bytes.ensures)) in
+    omega (arith, all, length-units c.in-Some.front.now, c.loop-front.invariant)
 
-pub returns-then-le16-ne0 : goal.returns-then-le16-ne0
-returns-then-le16-ne0 c =
-    let s = c.args.s.now in
-    let n = c.loop-n.n in
-    sym (trim-units-other s n (omega arith) (omega arith) (omega arith) (omega (arith, c.le16.ensures))) ∙ ap (λ k. 2 * k) c.loop-n.invariant.2
-
-pub loop-n-preserved : goal.loop-n-preserved
-loop-n-preserved c =
-    let s = c.args.s.now in
-    let n = c.loop-n.n in
-    (omega arith, omega arith, trim-units-zero s n (omega arith) (omega arith) (omega arith) (omega (arith, c.le16.ensures)) ∙ c.loop-n.invariant.2)
+pub loop-front-preserved : goal.loop-front-preserved
+loop-front-preserved c =
+    let (front, unit, size) = c.in-Some.ensures.cases in
+    let cut = units-end c.loop-front.kept.now c.in-Some.front.now c.in-Some.unit.now front unit size c.loop-front.invariant.0 in
+    let zero = ap (λ u. units_of c.in-Some.front.now ++ (u ∷ [])) (sym c.from_le_bytes.ensures ∙ c.if-from_le_bytes-ne0.false) in
+    (omega arith, sym (trim-zero (units_of c.in-Some.front.now)) ∙ sym (ap trimmed_of (cut ∙ zero)) ∙ c.loop-front.invariant.1)
 
 pub returns : goal.returns
-unfolding trimmed_of
 returns c =
-    let s = c.args.s.now in
-    let z : c.loop-n.n / 2 ≡ 0 = omega arith in
-    ap (λ k. 2 * trimmed_of (take k (units_of s))) (sym z) ∙ ap (λ k. 2 * k) c.loop-n.invariant.2
+    let kept = c.loop-front.kept.now in
+    omega (arith, trim-le (units_of kept), length-units kept, c.loop-front.invariant, c.in_default.ensures.cases)
