@@ -4,8 +4,8 @@ use harness::print::RefusalWords;
 use harness::{input, print, replies};
 use record::{Kind, Shape};
 use refusal::Refusal;
-use write::{Form, Wrote};
-use writes::bytes;
+use write::Wrote;
+use writes::{bytes, entries};
 
 // The most that a list of digests has, and the most that a buffer has.
 const DIGESTS_MOST: usize = 131072;
@@ -23,14 +23,6 @@ const FIELDS: usize = 13;
 
 // The letter, those fields, and the lengths of digests and data.
 const HEAD: usize = 22;
-
-fn form_of(n: u8) -> Option<Form> {
-    match n {
-        0 => Some(Form::Sha1),
-        1 => Some(Form::Agile),
-        _ => None,
-    }
-}
 
 fn answer_words(answer: Result<usize, Refusal>) {
     match answer {
@@ -60,7 +52,7 @@ pub fn entry(s: State, data: &mut [u8]) -> Option<State> {
     let mut digests = [0u8; DIGESTS_MOST];
     let mut buffer = [0u8; ROOM_MOST];
     let b = input::fill(&mut fields, FIELDS)?;
-    let form = form_of(numbers::byte(b, 0))?;
+    let form = entries::form_of(numbers::byte(b, 0))?;
     let register = numbers::le32(b, REGISTER);
     let event = numbers::le32(b, EVENT);
     let buffer = buffer.get_mut(..numbers::le32(b, ROOM) as usize)?;

@@ -100,7 +100,7 @@ impl<'a> Course<'a> {
     // Whether a record is the one that the whole walk gives, ends where the bytes taken do, and stands
     // at the hold's front.
     fn is_given(&self, hold: &[u8], turn: Turn, slot: Slot) -> bool {
-        matches!(turn, Turn::Record(own) if own == slot)
+        turn == Turn::Record(slot)
             && self.taken == whole::end_of(slot)
             && self
                 .log
@@ -128,14 +128,14 @@ impl<'a> Course<'a> {
         let Some((_, without)) = with.split_last() else {
             return false;
         };
-        whole::is_stop(whole::turn_at(with, self.cursor), Ending::Refused(r))
+        whole::turn_at(with, self.cursor) == Turn::Stop(Ending::Refused(r))
             && whole::is_short(whole::turn_at(without, self.cursor))
     }
 
     // The whole walk is refused so, by the last byte taken.
     fn after_refusal(&self, r: Refusal) -> Result<Next, Differs> {
         held_to(
-            whole::is_stop(self.turn(), Ending::Refused(r))
+            self.turn() == Turn::Stop(Ending::Refused(r))
                 && r.why != Why::FieldCut
                 && self.is_holding()
                 && self.rests_on(r),

@@ -30,14 +30,9 @@ pub fn needed_at(log: &[u8], cursor: Cursor) -> usize {
     }
 }
 
-// Whether the walk stops so.
-pub fn is_stop(turn: Turn, e: Ending) -> bool {
-    matches!(turn, Turn::Stop(own) if own == e)
-}
-
 // Whether an answer says how the walk stops.
 pub fn is_answered(turn: Turn, a: Answer) -> bool {
-    matches!(a, Answer::Stop(e) if is_stop(turn, e))
+    matches!(a, Answer::Stop(e) if turn == Turn::Stop(e))
 }
 
 // Whether a walk of a log's beginning stops because the log does.

@@ -57,12 +57,7 @@ pub struct RefusalWords(pub Refusal);
 
 impl fmt::Display for RefusalWords {
     fn fmt<W: fmt::Write>(&self, f: &mut fmt::Formatter<W>) -> fmt::Result {
-        write!(
-            f,
-            "refused {} at {}",
-            refusal::number_of(self.0.why),
-            self.0.at
-        )
+        write!(f, "refused {} at {}", u8::from(self.0.why), self.0.at)
     }
 }
 

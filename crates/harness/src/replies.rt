@@ -14,6 +14,7 @@ pub const HOLD_MOST: usize = 65536;
 // No list of counts and tallies has more numbers.
 const PLACES_MOST: usize = 128;
 
+// The number by which a line tells a kind.
 pub fn kind_number(k: Kind) -> u64 {
     match k {
         Kind::First => 0,

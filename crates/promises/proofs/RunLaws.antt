@@ -4,12 +4,10 @@
 --   order-run                     feeding pieces in order is a run
 --   calls_by, order-by             what feeds pieces in order in `pieces` does so in the code
 -- Assumes nothing.
-use Rattle.std.specs.Prelude.{Option}
 use Prim.Native.Nat.{ℕ, ◌≤◌}
 use mathlib.Core.Path.{◌≡◌, refl, sym, ap, ◌∙◌}
 use mathlib.Core.List.{List}
 use lib.ListN.{length}
-use Rattle.refusal.specs.declared.Ending.{Ending}
 use Rattle.refusal.specs.Limits.{log_most, hold_full}
 use Rattle.pieces.specs.Account.{With}
 use Rattle.pieces.specs.Feed.{gives, stops, wants, Outcome, feed_of, close_of}

@@ -34,7 +34,8 @@ fn well_formed(s: &[u8]) -> bool
     true
 }
 
-// The length in bytes without trailing zero units.
+// The length in bytes without trailing zero units. It is the text's of `utf8` over another unit: one
+// form for both would be longer than the two.
 fn trimmed(s: &[u8]) -> usize
     requires { length s.now % 2 ≡ 0 }
     ensures { result ≡ 2 * trimmed_of (units_of s.now) }
