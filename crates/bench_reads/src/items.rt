@@ -72,18 +72,18 @@ impl fmt::Display for EntryWords {
     }
 }
 
-pub fn node_line(found: Result<Option<NodeFields>, Refusal>) {
+fn found_line<W: fmt::Display + Drop>(found: Result<Option<W>, Refusal>) {
     match found {
-        Ok(Some(n)) => print::line(NodeWords(n)),
+        Ok(Some(words)) => print::line(words),
         Ok(None) => print::line("nothing"),
         Err(r) => print::line(RefusalWords(r)),
     }
 }
 
+pub fn node_line(found: Result<Option<NodeFields>, Refusal>) {
+    found_line(found.map(|node| node.map(NodeWords)));
+}
+
 pub fn entry_line(found: Result<Option<Entry>, Refusal>) {
-    match found {
-        Ok(Some(e)) => print::line(EntryWords(e)),
-        Ok(None) => print::line("nothing"),
-        Err(r) => print::line(RefusalWords(r)),
-    }
+    found_line(found.map(|entry| entry.map(EntryWords)));
 }

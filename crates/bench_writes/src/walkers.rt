@@ -1,6 +1,6 @@
 // The command W: a walker made up of numbers.
 use crate::states;
-use refusal::{Ending, Refusal, Why};
+use refusal::{Ending, Why};
 use walker::Walker;
 
 // Where the fields stand, and how many bytes they have in all.
@@ -53,10 +53,7 @@ fn kept_of(b: &[u8; FIELDS]) -> Option<Option<Ending>> {
     match b[KEPT] {
         0 => Some(None),
         1 => Some(Some(Ending::End { at, tail })),
-        2 => {
-            let why = why_of(b[NUMBER])?;
-            Some(Some(Ending::Refused(Refusal { why, at })))
-        }
+        2 => Some(Some(refusal::refused_with(why_of(b[NUMBER])?, at))),
         _ => None,
     }
 }

@@ -15,7 +15,7 @@ const LOGS_MOST: u64 = 4294967295;
 const SEED: u64 = 88172645463325252;
 
 // The logs so far.
-#[derive(Clone, Copy)]
+#[derive(Clone, Copy, Default)]
 struct Totals {
     bytes: usize,
     records: usize,
@@ -62,12 +62,8 @@ impl Totals {
 
 fn logs(buf: &mut [u8], hold: &mut [u8]) {
     let mut t = Totals {
-        bytes: 0,
-        records: 0,
-        ways: 0,
-        calls: 0,
-        differ: 0,
         random: SEED,
+        ..Totals::default()
     };
     for index in 0..LOGS_MOST {
         match input::next_log(buf) {

@@ -47,8 +47,19 @@ pub fn counted(buf: &mut [u8]) -> Option<&[u8]> {
     fill(buf, n as usize)
 }
 
-// A log of so many bytes.
-fn log_of(log: &mut [u8], len: usize) -> Result<Option<&[u8]>, Broken> {
+// A head, of which the last four bytes are a length, and so many bytes; nothing where the input ends.
+pub fn next_task<'a, const N: usize>(
+    head: &mut [u8; N],
+    log: &'a mut [u8],
+) -> Result<Option<&'a [u8]>, Broken> {
+    let read = io::read_full(0, head);
+    if read == 0 {
+        return Ok(None);
+    }
+    if read < N {
+        return Err(Broken::Short);
+    }
+    let len = numbers::le32(head, N.saturating_sub(4)) as usize;
     if LOG_MOST < len {
         return Err(Broken::Long);
     }
@@ -56,22 +67,7 @@ fn log_of(log: &mut [u8], len: usize) -> Result<Option<&[u8]>, Broken> {
     Ok(Some(log))
 }
 
-// A head of three numbers, of which the last is a length, and so many bytes; nothing where the input
-// ends.
-pub fn next_task<'a>(head: &mut [u8; 12], log: &'a mut [u8]) -> Result<Option<&'a [u8]>, Broken> {
-    match io::read_full(0, head) {
-        0 => Ok(None),
-        12 => log_of(log, numbers::le32(head, 8) as usize),
-        _ => Err(Broken::Short),
-    }
-}
-
 // A length and so many bytes; nothing where the input ends.
 pub fn next_log(log: &mut [u8]) -> Result<Option<&[u8]>, Broken> {
-    let mut head = [0u8; 4];
-    match io::read_full(0, &mut head) {
-        0 => Ok(None),
-        4 => log_of(log, numbers::le32(&head, 0) as usize),
-        _ => Err(Broken::Short),
-    }
+    next_task(&mut [0u8; 4], log)
 }

@@ -1,7 +1,6 @@
 // A log that was written is read back by the walk, and held to its entries.
 use harness::print;
 use made_logs::made::Made;
-use numbers::Span;
 use record::{Slot, Turn};
 use refusal::Ending;
 use standing::{REGISTERS, TALLIES};
@@ -40,12 +39,8 @@ impl<'a> Written<'a> {
     fn is_given(self, i: usize, turned: Turned) -> bool {
         match turned.turn {
             Turn::Record(slot) => {
-                let rest = Span {
-                    at: slot.start,
-                    len: self.log.len(),
-                };
-                self.is_record(i, slot, numbers::part(self.log, rest))
-                    && turned.next.shape == self.made.state
+                let rest = self.log.get(slot.start..).unwrap_or(&[]);
+                self.is_record(i, slot, rest) && turned.next.shape == self.made.state
             }
             Turn::Stop(_) => false,
         }

@@ -36,7 +36,7 @@ pub fn part(table: &[u32; 256], register: u32, s: &[u8]) -> u32
 {
     let mut r = register;
     for b in s {
-        let x = (*b as u32) ^ r;
+        let x = u32::from(*b) ^ r;
         r = (x / 256) ^ table[(x % 256) as usize];
     }
     r

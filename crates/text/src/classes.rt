@@ -47,5 +47,5 @@ fn table() -> &'static [u8; 256]
 pub fn class_of(b: u8) -> u8
     ensures { result ≡ class_of b }
 {
-    table()[b as usize]
+    table()[usize::from(b)]
 }

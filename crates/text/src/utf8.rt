@@ -1,6 +1,6 @@
 // UTF-8, checked by the classes of its bytes. Runs of plain bytes, those below 0x80, are passed
 // without them.
-ghost use Rattle.std.specs.Prelude.{◌≡◌, true, false, cond, ◌∷◌, [], ℕ, ◌+◌, ◌-◌, ◌<◌, ◌≤◌, Some, None, length, drop, get_or, replicate, MatchOption, EachIndex};
+ghost use Rattle.std.specs.Prelude.{◌≡◌, true, false, cond, ◌∷◌, ℕ, ◌+◌, ◌-◌, ◌<◌, ◌≤◌, Some, None, length, drop, get_or, replicate, MatchOption, EachIndex};
 ghost use Rattle.std.specs.List.{list_all};
 ghost use Rattle.text.specs.Rows.{◌··◌, opens, inside, step_of, formed};
 ghost use Rattle.text.specs.Unicode.{utf8_rows};
@@ -39,11 +39,7 @@ fn led(after: &[u8], low: u8, high: u8, more: usize) -> Option<usize>
     ensures { result ≡ cond (opens (low ·· high ∷ replicate (more - 1) (1 ·· 3)) (classes_from after.now 0)) (Some more) None }
 {
     let (first, others) = after.get(..more)?.split_first()?;
-    if is_in(*first, low, high) && follow(others) {
-        Some(more)
-    } else {
-        None
-    }
+    (is_in(*first, low, high) && follow(others)).then_some(more)
 }
 
 // How many bytes more the sequence of a lead has: Unicode's rows, by the class of the lead.

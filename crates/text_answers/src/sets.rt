@@ -1,5 +1,5 @@
 // The sets of elements that sequences are made of.
-ghost use Rattle.std.specs.Prelude.{◌<◌, ◌≤◌, length};
+ghost use Rattle.std.specs.Prelude.{◌<◌, ◌≤◌, length, IfSome};
 
 use std::fmt;
 
@@ -46,24 +46,27 @@ const ZERO_BYTES: [u16; 4] = [0x00, 0x41, 0xC3, 0xA9];
 // 'A', a unit whose first byte is zero, and a pair of surrogates.
 const ZERO_UNITS: [u16; 5] = [0x0000, 0x0041, 0x4100, 0xD83D, 0xDE00];
 
-// A list's element at a number's last digit, in the base that is the list's length.
-fn digit(list: &[u16], number: u64) -> u16
-    requires { 0 < length list.now }
-{
-    list[(number % list.len() as u64) as usize]
-}
-
 impl Set {
+    // The elements, where they are not every byte.
+    fn list(self) -> Option<&'static [u16]>
+        ensures { IfSome result (λ list. (0 < length list.now) × (length list.now ≤ 256)) }
+    {
+        match self {
+            Set::Bytes => None,
+            Set::BorderBytes => Some(&BORDER_BYTES),
+            Set::BorderUnits => Some(&BORDER_UNITS),
+            Set::ZeroBytes => Some(&ZERO_BYTES),
+            Set::ZeroUnits => Some(&ZERO_UNITS),
+        }
+    }
+
     // How many elements it has.
     pub fn size(self) -> u32
         ensures { (0 < result) × (result ≤ 256) }
     {
-        match self {
-            Set::Bytes => 256,
-            Set::BorderBytes => BORDER_BYTES.len() as u32,
-            Set::BorderUnits => BORDER_UNITS.len() as u32,
-            Set::ZeroBytes => ZERO_BYTES.len() as u32,
-            Set::ZeroUnits => ZERO_UNITS.len() as u32,
+        match self.list() {
+            None => 256,
+            Some(list) => list.len() as u32,
         }
     }
 
@@ -74,12 +77,9 @@ impl Set {
 
     // The element that a number's last digit stands for, in the base that is the set's size.
     pub fn element(self, number: u64) -> u16 {
-        match self {
-            Set::Bytes => (number % 256) as u16,
-            Set::BorderBytes => digit(&BORDER_BYTES, number),
-            Set::BorderUnits => digit(&BORDER_UNITS, number),
-            Set::ZeroBytes => digit(&ZERO_BYTES, number),
-            Set::ZeroUnits => digit(&ZERO_UNITS, number),
+        match self.list() {
+            None => (number % 256) as u16,
+            Some(list) => list[(number % list.len() as u64) as usize],
         }
     }
 }

@@ -7,7 +7,6 @@ mod hex;
 use harness::{input, print};
 use hex::Hex;
 use made_logs::{again, made};
-use numbers::Span;
 use read_back::feeds;
 use read_back::lines::Totals;
 use read_back::walks::Written;
@@ -46,7 +45,7 @@ impl Buffers {
         let end = buffer::put(&mut self.log, made.end, tail);
         let written = Written {
             block,
-            log: numbers::part(&self.log, Span { at: 0, len: end }),
+            log: self.log.get(..end).unwrap_or(&[]),
             starts: &self.starts,
             made,
         };

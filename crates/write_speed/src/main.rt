@@ -5,7 +5,6 @@
 mod measure;
 
 use harness::{input, print, replies};
-use numbers::Span;
 use refusal::LOG_MOST;
 
 // No input has so many tasks.
@@ -17,13 +16,7 @@ const BLOCK_MOST: usize = 131072;
 // Writes the entries of a task as often as it says.
 fn task(times: u32, block: &[u8], log: &mut [u8]) {
     let tally = measure::repeat(block, log, times);
-    let log = numbers::part(
-        log,
-        Span {
-            at: 0,
-            len: tally.end,
-        },
-    );
+    let log = log.get(..tally.end).unwrap_or(&[]);
     print::line(format_args!(
         "wrote times {times} records {} bytes {} sum {}",
         tally.records,

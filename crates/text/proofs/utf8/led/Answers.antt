@@ -1,12 +1,14 @@
 -- `text::utf8::led`: too few bytes follow, or the first of so many is of its range and the others are of theirs. Assumes nothing.
-use Rattle.std.proofs.Common.{rules, ◌≡◌, ◌<◌, ◌∷◌, ◌&&◌, sym, ap, ◌∙◌, arith, length, replicate, ◌-◌}
+use Rattle.std.proofs.Common.{rules, refl, ◌≡◌, ◌<◌, ◌∷◌, ◌&&◌, sym, ap, ◌∙◌, arith, length, replicate, ◌-◌}
+use Rattle.std.specs.Prelude.{ℕ, Bool, true, false, cond, Some, None}
+use Rattle.std.specs.Bool.{then_some}
 use Rattle.std.specs.List.{list_all}
 use Rattle.std.proofs.lemmas.Slice.{between_from_start}
 use Rattle.text.specs.Rows.{◌··◌, inside, opens}
 use Rattle.text.specs.Classes.{class_of, classes_from}
 use Rattle.text.proofs.ClassLaws.{led-short, led-front}
 use Rattle.text.proofs.utf8.led.Goals as goal
-use Rattle.text.proofs.utf8.led.Goals.{After-is_in, else-is_in-via-then-is_in+else-follow, else-is_in-via-else-is_in}
+use Rattle.text.proofs.utf8.led.Goals.{After-is_in, then-is_in, else-is_in}
 
 pub returns-in_err-get : goal.returns-in_err-get
 returns-in_err-get c =
@@ -24,11 +26,11 @@ decided c =
     led-front (a.low ·· a.high) a.more a.after.now c.in_ok-first.others.now c.in_ok-first.first.now c.requires (omega (arith, look)) (sym (between_from_start a.after.now a.more) ∙ sym look.0.2 ∙ front)
     ∙ ap (λ b. b && list_all (λ b. inside (1 ·· 3) (class_of b)) c.in_ok-first.others.now) (sym c.is_in.ensures)
 
-pub returns-then-follow : goal.returns-then-follow
-returns-then-follow c =
-    rw (decided (goal.at.returns-then-follow c).After-is_in, c.if-is_in.true, ← c.follow.ensures, c.if-follow.true)
+gives : (b : Bool) (n : ℕ) → then_some b n ≡ cond b (Some n) None
+gives true n = refl
+gives false n = refl
 
-pub returns-else-is_in : goal.returns-else-is_in
-returns-else-is_in c =
-    let d = decided (goal.at.returns-else-is_in c).After-is_in in
-    elim c.else-is_in.branch [ else-is_in-via-then-is_in+else-follow w ↦ rw (d, w.if-is_in.true, ← w.follow.ensures, w.if-follow.false) | else-is_in-via-else-is_in w ↦ rw (d, w.if-is_in.false) ]
+pub returns : goal.returns
+returns c =
+    let d = decided (goal.at.returns c).After-is_in in
+    elim c.if-is_in.branch [ then-is_in w ↦ rw (c.then_some.ensures, d, w.then_some-is, w.if-is_in.true, ← w.follow.ensures) (gives w.follow.result c.args.more) | else-is_in w ↦ rw (c.then_some.ensures, d, w.then_some-is, w.if-is_in.false) ]
