@@ -15,15 +15,14 @@ use harness::{input, print};
 // The most bytes that a command gives behind a length.
 const DATA_MOST: usize = 131072;
 
-// The rest of a command by its letter: the state after it, past letter, fields and bytes; none where it is
-// bad.
-fn command(letter: u8, s: State, data: &mut [u8], hold: &mut [u8]) -> Option<State> {
+// The rest of a command by its letter: how many bytes it has with letter and fields; none where it is bad.
+fn command(letter: u8, s: &mut State, data: &mut [u8], hold: &mut [u8]) -> Option<usize> {
     Some(match letter {
-        b'L' => s.past(9).past(walks::whole(data)?),
-        b'P' => s.past(9).past(readers::node(data)?),
-        b'G' => s.past(9).past(readers::entry(data)?),
-        b'U' => s.past(5).past(readers::utf8_text(data)?),
-        b'X' => s.past(5).past(readers::wide_text(data)?),
+        b'L' => walks::whole(data)?.saturating_add(9),
+        b'P' => readers::node(data)?.saturating_add(9),
+        b'G' => readers::entry(data)?.saturating_add(9),
+        b'U' => readers::utf8_text(data)?.saturating_add(5),
+        b'X' => readers::wide_text(data)?.saturating_add(5),
         b'N' => feeds::fresh(s, hold),
         b'W' => feeds::made(s)?,
         b'H' => feeds::sized(s, hold)?,
@@ -33,7 +32,7 @@ fn command(letter: u8, s: State, data: &mut [u8], hold: &mut [u8]) -> Option<Sta
         b'c' => feeds::close::<Place>(s, hold),
         b'S' => writing::fresh(s),
         b'M' => writing::made(s)?,
-        b'E' => entries::entry(s, data)?,
+        b'E' => entries::entry(&mut s.written, data)?,
         _ => return None,
     })
 }
@@ -45,10 +44,10 @@ fn commands(data: &mut [u8], hold: &mut [u8]) {
         let Some(letter) = input::next_letter() else {
             return;
         };
-        let Some(next) = command(letter, s, data, hold) else {
+        let Some(n) = command(letter, &mut s, data, hold) else {
             return print::line(format_args!("bad command at {}", s.at));
         };
-        s = next;
+        s = s.past(n);
     }
 }
 

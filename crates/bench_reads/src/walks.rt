@@ -13,13 +13,17 @@ fn walk_lines(t: Table, lent: usize) {
     for slot in t.slots.iter().take(filled) {
         print::line(SlotWords(*slot));
     }
-    let pattern = fields::made_of(PATTERN);
+    let pattern = fields::fields_of(fields::made_of(PATTERN));
     let behind = t.slots.iter().take(lent).skip(filled);
-    let kept = behind.filter(|slot| **slot == pattern).count();
+    let kept = behind
+        .filter(|slot| fields::same(fields::fields_of(**slot), pattern))
+        .count();
     print::line(format_args!("kept {kept}"));
 }
 
-// How many bytes the command had behind its fields, or nothing where it is bad.
+// How many bytes the command had behind its fields, or nothing where it is bad. Its slots are large: in
+// the frame of the caller they would cost every command.
+#[inline(never)]
 pub fn whole(data: &mut [u8]) -> Option<usize> {
     let lent = input::next_field()? as usize;
     if TABLE < lent {

@@ -1,5 +1,4 @@
 // The command E: an entry is written to the front of a buffer that held a pattern.
-use crate::state::State;
 use harness::print::RefusalWords;
 use harness::{input, print, replies};
 use record::{Kind, Shape};
@@ -46,8 +45,11 @@ fn lines(before: Shape, wrote: Wrote, buffer: &[u8]) {
     }
 }
 
-// Writes into so much of a buffer as the fields give room.
-pub fn entry(s: State, data: &mut [u8]) -> Option<State> {
+// Writes into so much of a buffer as the fields give room, from the writer's state, and gives how many
+// bytes the command has, or nothing where it is bad. Its buffers are large: in the frame of the caller
+// they would cost every command.
+#[inline(never)]
+pub fn entry(state: &mut Shape, data: &mut [u8]) -> Option<usize> {
     let mut fields = [0u8; FIELDS];
     let mut digests = [0u8; DIGESTS_MOST];
     let mut buffer = [0u8; ROOM_MOST];
@@ -59,10 +61,13 @@ pub fn entry(s: State, data: &mut [u8]) -> Option<State> {
     let digests = input::counted(&mut digests)?;
     let data = input::counted(data)?;
     bytes::fill(buffer);
-    let wrote = write::write(s.written, form, register, event, digests, data, buffer);
-    lines(s.written, wrote, buffer);
-    Some(State {
-        written: wrote.state,
-        ..s.past(HEAD).past(digests.len()).past(data.len())
-    })
+    let wrote = write::write(*state, form, register, event, digests, data, buffer);
+    lines(*state, wrote, buffer);
+    *state = wrote.state;
+    Some(
+        digests
+            .len()
+            .saturating_add(data.len())
+            .saturating_add(HEAD),
+    )
 }

@@ -27,13 +27,23 @@ fn pairs_of(b: &[u8]) -> [Pair; PAIRS_MOST] {
     })
 }
 
-// None where the kind is not one of three.
-pub fn state_of(b: &[u8]) -> Option<Shape> {
-    Some(Shape {
-        kind: kind_of(numbers::byte(b, 0))?,
+// Whether the kind is one of three.
+pub fn is_sound(b: &[u8]) -> bool {
+    kind_of(numbers::byte(b, 0)).is_some()
+}
+
+// A kind that is none of the three stands for the last.
+pub fn state_of(b: &[u8]) -> Shape {
+    Shape {
+        kind: kind_of(numbers::byte(b, 0)).unwrap_or(Kind::Agile),
         pairs: Pairs {
             table: pairs_of(b),
             count: numbers::le64(b, COUNT) as usize,
         },
-    })
+    }
+}
+
+// None where the fields are not sound.
+pub fn sound_state_of(b: &[u8]) -> Option<Shape> {
+    is_sound(b).then(|| state_of(b))
 }

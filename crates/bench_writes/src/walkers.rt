@@ -1,6 +1,8 @@
 // The command W: a walker made up of numbers.
 use crate::states;
+use numbers::Span;
 use refusal::{Ending, Why};
+use std::array;
 use walker::Walker;
 
 // Where the fields stand, and how many bytes they have in all.
@@ -46,35 +48,53 @@ fn why_of(n: u8) -> Option<Why> {
     }
 }
 
-// The answer that is kept, if there is one. The number is looked at only where a refusal is kept.
-fn kept_of(b: &[u8; FIELDS]) -> Option<Option<Ending>> {
+// What comes next, and the pairs.
+fn shape_part(b: &[u8]) -> &[u8] {
+    numbers::part(
+        b,
+        Span {
+            at: SHAPE,
+            len: states::FIELDS,
+        },
+    )
+}
+
+// Whether kind, kept and number are such as a walker has. The number is looked at only where a
+// refusal is kept.
+pub fn is_sound(b: &[u8]) -> bool {
+    let kept_is = match numbers::byte(b, KEPT) {
+        0 | 1 => true,
+        2 => why_of(numbers::byte(b, NUMBER)).is_some(),
+        _ => false,
+    };
+    states::is_sound(shape_part(b)) && kept_is
+}
+
+// The answer that is kept, if there is one. A number that no refusal has stands for the last.
+fn kept_of(b: &[u8]) -> Option<Ending> {
     let at = numbers::le64(b, FIRST) as usize;
     let tail = numbers::le64(b, SECOND) as usize;
-    match b[KEPT] {
-        0 => Some(None),
-        1 => Some(Some(Ending::End { at, tail })),
-        2 => Some(Some(refusal::refused_with(why_of(b[NUMBER])?, at))),
-        _ => None,
+    let why = why_of(numbers::byte(b, NUMBER)).unwrap_or(Why::WrongForm);
+    match numbers::byte(b, KEPT) {
+        0 => None,
+        1 => Some(Ending::End { at, tail }),
+        _ => Some(refusal::refused_with(why, at)),
     }
 }
 
-// Numbers of four bytes, one after the other.
-fn list_of<const N: usize>(b: &[u8]) -> [u32; N] {
-    let mut list = [0u32; N];
-    for (n, field) in list.iter_mut().zip(b.chunks_exact(4)) {
-        *n = numbers::le32(field, 0);
-    }
-    list
-}
-
-// None where kind, kept and number are not such as a walker has.
-pub fn walker_of(b: &[u8; FIELDS]) -> Option<Walker> {
-    Some(Walker {
+// Fields that are not sound stand for the last that are.
+pub fn walker_of(b: &[u8]) -> Walker {
+    Walker {
         held: numbers::le64(b, 0) as usize,
         total: numbers::le64(b, TOTAL) as usize,
-        shape: states::state_of(&b[SHAPE..COUNTS])?,
-        kept: kept_of(b)?,
-        counts: list_of(&b[COUNTS..TALLIED]),
-        tallies: list_of(&b[TALLIED..KEPT]),
-    })
+        shape: states::state_of(shape_part(b)),
+        kept: kept_of(b),
+        counts: array::from_fn(|i| numbers::le32(b, COUNTS + 4 * i)),
+        tallies: array::from_fn(|i| numbers::le32(b, TALLIED + 4 * i)),
+    }
+}
+
+// None where the fields are not sound.
+pub fn sound_walker_of(b: &[u8]) -> Option<Walker> {
+    is_sound(b).then(|| walker_of(b))
 }

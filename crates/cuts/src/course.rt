@@ -15,6 +15,14 @@ fn held_to(agrees: bool) -> Result<(), Differs> {
     if agrees { Ok(()) } else { Err(Differs) }
 }
 
+// Whether a turn gives just this slot, by the numbers of crate `fields`.
+fn is_same(turn: Turn, slot: Slot) -> bool {
+    match turn {
+        Turn::Record(given) => fields::same(fields::fields_of(given), fields::fields_of(slot)),
+        Turn::Stop(_) => false,
+    }
+}
+
 // What comes after a feed.
 #[derive(Clone, Copy, PartialEq, Eq)]
 pub enum Next {
@@ -100,7 +108,7 @@ impl<'a> Course<'a> {
     // Whether a record is the one that the whole walk gives, ends where the bytes taken do, and stands
     // at the hold's front.
     fn is_given(&self, hold: &[u8], turn: Turn, slot: Slot) -> bool {
-        turn == Turn::Record(slot)
+        is_same(turn, slot)
             && self.taken == whole::end_of(slot)
             && self
                 .log

@@ -12,6 +12,7 @@ pub trait Form {
 }
 
 // By value.
+#[derive(Clone, Copy)]
 pub struct Value;
 
 impl Form for Value {
@@ -25,6 +26,7 @@ impl Form for Value {
 }
 
 // Where the walker lies.
+#[derive(Clone, Copy)]
 pub struct Place;
 
 impl Form for Place {

@@ -2,28 +2,60 @@
 // words.
 use crate::input::Broken;
 use contents::{Contents, Separated};
-use gpt::Header;
 use numbers::Span;
 use record::Slot;
 use refusal::{Ending, LOG_MOST, Refusal};
-use spec_id::MarkerFields;
 use std::fmt;
 
-// Standard output by its number: std's own printing would assume C's error texts too.
-#[derive(Clone, Copy)]
-struct Out;
+// So many bytes are gathered before they are written.
+const GATHERED: usize = 256;
+
+// Standard output by its number: std's own printing would assume C's error texts too. A line is gathered,
+// so that it takes one write and not one a word.
+#[derive(Drop)]
+struct Out {
+    gathered: [u8; GATHERED],
+    len: usize,
+}
+
+impl Out {
+    // What cannot be written is left out, and what comes after it is tried.
+    fn flush(&mut self) {
+        io::write_all(1, self.gathered.get(..self.len).unwrap_or(&[]));
+        self.len = 0;
+    }
+}
 
 impl fmt::Write for Out {
-    // What cannot be written is left out, and what comes after it is tried.
     fn write_str(&mut self, words: &str) -> fmt::Result {
-        let _ = io::write_all(1, words.as_bytes());
+        let words = words.as_bytes();
+        if GATHERED - self.len.min(GATHERED) < words.len() {
+            self.flush();
+        }
+        match self
+            .gathered
+            .get_mut(self.len..)
+            .and_then(|rest| rest.get_mut(..words.len()))
+        {
+            Some(room) => {
+                room.copy_from_slice(words);
+                self.len = self.len.wrapping_add(words.len());
+            }
+            None => {
+                io::write_all(1, words);
+            }
+        }
         Ok(())
     }
 }
 
 pub fn say<D: fmt::Display + Drop>(words: D) {
-    let mut out = Out;
+    let mut out = Out {
+        gathered: [0; GATHERED],
+        len: 0,
+    };
     let _ = fmt::Write::write_fmt(&mut out, format_args!("{words}"));
+    out.flush();
 }
 
 pub fn line<D: fmt::Display + Drop>(words: D) {
@@ -71,104 +103,90 @@ impl fmt::Display for EndingWords {
     }
 }
 
-// A slot with its contents.
+// The words before each of a slot's own numbers, in the order of crate `fields`.
+const SLOT_WORDS: [&str; 8] = [
+    "at ",
+    " pcr ",
+    " type ",
+    " place ",
+    " digests ",
+    " data ",
+    "+",
+    " nth ",
+];
+
+// The words before each number of the contents, in the same order.
+fn inside(c: Contents) -> &'static [&'static str] {
+    match c {
+        Contents::Empty | Contents::Separator(_) => &[],
+        Contents::Text(_) => &[" text ", "+"],
+        Contents::Variable(_) => &[" variable guid ", "+", " name ", "+", " data ", "+"],
+        Contents::Image(_) => &[
+            " image location ",
+            " length ",
+            " link ",
+            " path ",
+            "+",
+            " nodes ",
+            " extra ",
+            "+",
+        ],
+        Contents::Gpt(_) => &[
+            " gpt revision ",
+            " size ",
+            " spare ",
+            " my ",
+            " other ",
+            " first ",
+            " last ",
+            " disk ",
+            "+",
+            " lba ",
+            " reserved ",
+            "+",
+            " h ",
+            " e ",
+            " entries ",
+        ],
+        Contents::Blob(_) => &[" blob base ", " length "],
+        Contents::Marker(_) => &[
+            " marker class ",
+            " minor ",
+            " major ",
+            " errata ",
+            " uintn ",
+            " pairs ",
+            " vendor ",
+            "+",
+        ],
+    }
+}
+
+// The words behind the numbers, where contents have no number to tell.
+fn behind(c: Contents) -> &'static str {
+    match c {
+        Contents::Empty => " none",
+        Contents::Separator(Separated::Uefi) => " separator uefi",
+        Contents::Separator(Separated::Bios) => " separator bios",
+        _ => "",
+    }
+}
+
+// A slot with its contents, by its numbers.
 #[derive(Clone, Copy)]
 pub struct SlotWords(pub Slot);
 
 impl fmt::Display for SlotWords {
     fn fmt<W: fmt::Write>(&self, f: &mut fmt::Formatter<W>) -> fmt::Result {
-        let s = self.0;
-        write!(
-            f,
-            "at {} pcr {} type {} place {} digests {} data {} nth {}{}",
-            s.start,
-            s.register,
-            s.event,
-            s.digest_place,
-            s.digests,
-            SpanWords(s.data),
-            s.serial,
-            ContentsWords(s.contents)
-        )
-    }
-}
-
-#[derive(Clone, Copy)]
-struct ContentsWords(Contents);
-
-impl fmt::Display for ContentsWords {
-    fn fmt<W: fmt::Write>(&self, f: &mut fmt::Formatter<W>) -> fmt::Result {
-        match self.0 {
-            Contents::Empty => f.write_str(" none"),
-            Contents::Text(r) => write!(f, " text {}", SpanWords(r)),
-            Contents::Variable(v) => write!(
-                f,
-                " variable guid {} name {} data {}",
-                SpanWords(v.guid),
-                SpanWords(v.name),
-                SpanWords(v.rest)
-            ),
-            Contents::Image(i) => write!(
-                f,
-                " image location {} length {} link {} path {} nodes {} extra {}",
-                i.location,
-                i.len,
-                i.link,
-                SpanWords(i.path),
-                i.nodes,
-                SpanWords(i.extra)
-            ),
-            Contents::Gpt(h) => write!(f, " gpt {}", HeaderWords(h)),
-            Contents::Blob(b) => write!(f, " blob base {} length {}", b.base, b.len),
-            Contents::Separator(Separated::Uefi) => f.write_str(" separator uefi"),
-            Contents::Separator(Separated::Bios) => f.write_str(" separator bios"),
-            Contents::Marker(m) => write!(f, " marker {}", MarkerWords(m)),
+        let contents = self.0.contents;
+        let numbers = fields::fields_of(self.0).numbers;
+        for (word, n) in SLOT_WORDS
+            .iter()
+            .chain(inside(contents))
+            .zip(numbers.iter())
+        {
+            write!(f, "{word}{n}")?;
         }
-    }
-}
-
-#[derive(Clone, Copy)]
-struct HeaderWords(Header);
-
-impl fmt::Display for HeaderWords {
-    fn fmt<W: fmt::Write>(&self, f: &mut fmt::Formatter<W>) -> fmt::Result {
-        let h = self.0;
-        write!(
-            f,
-            "revision {} size {} spare {} my {} other {} first {} last {} disk {} lba {} reserved {} h {} e {} entries {}",
-            h.revision,
-            h.size,
-            h.spare,
-            h.my_lba,
-            h.alternate_lba,
-            h.first_usable_lba,
-            h.last_usable_lba,
-            SpanWords(h.disk_guid),
-            h.entry_lba,
-            SpanWords(h.reserved),
-            h.end,
-            h.entry_size,
-            h.entries
-        )
-    }
-}
-
-#[derive(Clone, Copy)]
-struct MarkerWords(MarkerFields);
-
-impl fmt::Display for MarkerWords {
-    fn fmt<W: fmt::Write>(&self, f: &mut fmt::Formatter<W>) -> fmt::Result {
-        let m = self.0;
-        write!(
-            f,
-            "class {} minor {} major {} errata {} uintn {} pairs {} vendor {}",
-            m.class,
-            m.minor,
-            m.major,
-            m.errata,
-            m.uintn,
-            m.pairs,
-            SpanWords(m.vendor)
-        )
+        f.write_str(behind(contents))
     }
 }

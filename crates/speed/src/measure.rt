@@ -70,6 +70,9 @@ fn feed_piece(w: &mut Walker, hold: &mut [u8], piece: &[u8], t: &mut Tally) {
 fn feed(log: &[u8], hold: &mut [u8], size: NonZeroUsize, t: &mut Tally) {
     let mut w = walker::fresh();
     for piece in log.chunks(size.get()) {
+        if w.kept.is_some() {
+            return;
+        }
         feed_piece(&mut w, hold, piece, t);
     }
     if w.kept.is_none() {

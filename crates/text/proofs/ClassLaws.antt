@@ -5,7 +5,10 @@ use Rattle.std.specs.List.{list_all}
 use Rattle.std.proofs.Common.{ℕ, zero, suc, ◌+◌, ◌-◌, ◌≤◌, ◌<◌, ◌≡◌, refl, sym, ap, ap₂, ◌∙◌, Bool, true, false, cond, ◌&&◌, List, [], ◌∷◌, map, take, drop, replicate, length, arith}
 use Rattle.std.proofs.Math.Seq.{drop-drop}
 use Rattle.std.proofs.lemmas.List.{length-map, length-replicate, length-take-le}
-use mathlib.Core.Bool.{beq}
+use mathlib.Core.Bool.{beq, and-true}
+use native.Mathlib.Numerals.{add-one}
+use lib.ListN.{get_or}
+use lib.Seq.{drop-cons}
 use lib.Arith.{lt_of_le-ne}
 use borrow.Author.Tests.{le-leb, lt-leb}
 use Rattle.numbers.specs.Number.{Bytes}
@@ -85,6 +88,13 @@ formed_like (suc k) (x ∷ s) t = formed_like k s (bytes-tail t)
 pub formed-classes : (s : List ℕ) → Bytes s → formed utf8_rows 0 s ≡ formed class_rows 0 (map class_of s)
 formed-classes s t = formed_like 0 s t
 
+-- the classes from a place on: that of the byte there, and those after it
+from_cons : (s : List ℕ) (at : ℕ) → at < length s → classes_from s at ≡ class_of (get_or s at 0) ∷ classes_from s (at + 1)
+unfolding classes_from
+from_cons s at h =
+    let e : drop at s ≡ get_or s at 0 ∷ drop (at + 1) s = rw (add-one at) (drop-cons s at 0 h) in
+    ap (map class_of) e
+
 -- a row's first range at a place, its others at the next
 pub opens-from : (r : Range) (row : Row) (s : List ℕ) (at next : ℕ) → at + 1 ≡ next
     → opens (r ∷ row) (classes_from s at) ≡ opens (r ∷ []) (classes_from s at) && opens row (classes_from s next)
@@ -97,6 +107,10 @@ opens-from r row s at next e =
     tail : (l : List ℕ) → drop 1 (map class_of l) ≡ map class_of (drop 1 l)
     tail [] = refl
     tail (x ∷ l) = refl
+
+-- one range at a place
+pub opens_one : (r : Range) (s : List ℕ) (at : ℕ) → at < length s → opens (r ∷ []) (classes_from s at) ≡ inside r (class_of (get_or s at 0))
+opens_one r s at h = ap (opens (r ∷ [])) (from_cons s at h) ∙ and-true (inside r (class_of (get_or s at 0)))
 
 -- a row opens s where it opens its front
 opens-take : (row : Row) (s : List ℕ) → opens row (take (length row) s) ≡ opens row s

@@ -4,11 +4,12 @@ use mathlib.Core.Path.{◌≡◌, refl, sym, ap, ◌∙◌}
 use mathlib.Core.Bool.{cond, and-true}
 use mathlib.Core.List.{List, [], ◌∷◌, ◌++◌}
 use native.Mathlib.Omega.{arith}
-use lib.ListN.{length, take, drop}
+use native.Mathlib.Nat.{add-zero}
+use lib.ListN.{length, take, drop, get_or, length-drop}
 use Rattle.std.specs.Int.{from_le_bytes}
 use Rattle.std.proofs.Common.{w16}
 use Rattle.std.proofs.lemmas.List.{length-append, take-append-drop}
-use lib.Seq.{drop-nil}
+use lib.Seq.{drop-nil, drop-drop, get_or-drop}
 use borrow.Author.Tests.{le-leb, lt-leb}
 use Rattle.numbers.specs.Number.{Bytes, le_of, number_at}
 use Rattle.text.specs.Rows.{◌··◌, inside, opens, step_of}
@@ -55,6 +56,22 @@ units-drop zero s = refl
 units-drop (suc i) [] = ap units_of (drop-nil (2 * suc i))
 units-drop (suc i) (a ∷ []) = let e : 2 * suc i ≡ suc (suc (2 * i)) = omega arith in rw e
 units-drop (suc i) (a ∷ b ∷ s) = let e : 2 * suc i ≡ suc (suc (2 * i)) = omega arith in rw e (units-drop i s)
+
+-- the units from a place on: the number there, and the units after it
+pub units-at : (s : List ℕ) (at : ℕ) → at + 2 ≤ length s → units_of (drop at s) ≡ number_at 2 s at ∷ units_of (drop (at + 2) s)
+unfolding units_of number_at
+units-at s at h = go (drop at s) (omega (arith, length-drop at s)) ∙ ap (λ (t : List ℕ). number_at 2 s at ∷ units_of t) (drop-drop 2 at s)
+  where
+    go : (t : List ℕ) → 2 ≤ length t → units_of t ≡ le_of (take 2 t) ∷ units_of (drop 2 t)
+    go [] h = absurd (omega arith)
+    go (a ∷ []) h = absurd (omega arith)
+    go (a ∷ b ∷ t) h = refl
+
+pub get_or-units : (s : List ℕ) (i : ℕ) → 2 * i + 2 ≤ length s → get_or (units_of s) i 0 ≡ number_at 2 s (2 * i)
+get_or-units s i h =
+    ap (λ (k : ℕ). get_or (units_of s) k 0) (sym (add-zero i))
+    ∙ sym (get_or-drop i (units_of s) 0 0)
+    ∙ ap (λ (u : List ℕ). get_or u 0 0) (sym (units-drop i s) ∙ units-at s (2 * i) h)
 
 -- two bytes are a unit
 unit-of : (a b : ℕ) → le_of (a ∷ b ∷ []) ≡ from_le_bytes w16 (a ∷ b ∷ [])
