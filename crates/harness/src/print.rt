@@ -10,8 +10,8 @@ use std::fmt;
 // So many bytes are gathered before they are written.
 const GATHERED: usize = 256;
 
-// Standard output by its number: std's own printing would assume C's error texts too. A line is gathered,
-// so that it takes one write and not one a word.
+// Standard output by its number: std's own printing would assume C's error texts too. Words are gathered,
+// so that most lines take one write and not one a word.
 #[derive(Drop)]
 struct Out {
     gathered: [u8; GATHERED],
